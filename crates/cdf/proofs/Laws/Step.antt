@@ -1,0 +1,78 @@
+-- Laws of steps: one after the other, checks, runs, and where a step ends.
+use Prim.Native.Nat.{ℕ, zero, suc, _+_, _-_, _≤_, _<_}
+use native.Mathlib.Omega.{arith}
+use mathlib.Core.Path.{_≡_, refl, sym, subst, ap, _∙_}
+use mathlib.Core.Bool.{Bool, true, false, cond}
+use mathlib.Core.List.{List}
+use lib.ListN.{length}
+use lib.Dec.{ltb}
+use Rattle.cdf.specs.Step.{Step, got, stop, bind, test, many, unfinished}
+
+-- a step that is taken ends at a place up to b
+pub data Ends {A : Type 0} (b : ℕ) : Step A → Type 0 where
+  ended : (a : A) (n : ℕ) → n ≤ b → Ends b (got a n)
+  stopped : (k p : ℕ) → Ends b (stop k p)
+
+pub bind-ends : {A B : Type 0} {b : ℕ} (m : Step A) (f : A → ℕ → Step B) → Ends b m → ((a : A) (n : ℕ) → n ≤ b → Ends b (f a n)) → Ends b (bind m f)
+unfolding bind
+bind-ends (got a n) f (ended _ _ h) k = k a n h
+bind-ends (stop i p) f (stopped _ _) k = stopped i p
+
+pub test-ends : {A : Type 0} {b : ℕ} (t : Bool) (x y : Step A) → (t ≡ true → Ends b x) → (t ≡ false → Ends b y) → Ends b (test t x y)
+unfolding test
+test-ends true x y h k = h refl
+test-ends false x y h k = k refl
+
+pub many-ends : {S : Type 0} {b : ℕ} (f : S → ℕ → Step S) → ((st : S) (at : ℕ) → at ≤ b → Ends b (f st at)) → (n : ℕ) (st : S) (at : ℕ) → at ≤ b → Ends b (many f n st at)
+unfolding many
+many-ends f e zero st at h = ended st at h
+many-ends f e (suc n) st at h = bind-ends _ _ (e st at h) (λ st′ at′ h′. many-ends f e n st′ at′ h′)
+
+pub unfinished-ends : {A : Type 0} {b : ℕ} (s : List ℕ) (size : ℕ) → Ends b (unfinished {A = A} s size)
+unfolding unfinished
+unfinished-ends s size = stopped _ _
+
+got-up : {A : Type 0} {b n : ℕ} {a : A} → Ends b (got a n) → n ≤ b
+got-up (ended _ _ h) = h
+
+pub got-ends : {A : Type 0} {b n : ℕ} {a : A} {m : Step A} → got a n ≡ m → Ends b m → n ≤ b
+got-ends {b = b} e h = got-up (subst (λ m. Ends b m) (sym e) h)
+
+-- a step after a step: by the value that the first gives, or by its refusal
+pub by-got : {A B : Type 0} {a : A} {n : ℕ} {m : Step A} (f : A → ℕ → Step B) (x : Step B) → got a n ≡ m → x ≡ f a n → x ≡ bind m f
+unfolding bind
+by-got f x e h = subst (λ m. x ≡ bind m f) e h
+
+pub by-stop : {A B : Type 0} {k p : ℕ} {m : Step A} (f : A → ℕ → Step B) → stop k p ≡ m → stop k p ≡ bind m f
+unfolding bind
+by-stop {k = k} {p = p} f e = subst (λ m. stop k p ≡ bind m f) e refl
+
+-- a check that holds, and one that does not
+pub by-true : {A : Type 0} {t : Bool} {z x : Step A} (y : Step A) → t ≡ true → z ≡ x → z ≡ test t x y
+unfolding test
+by-true {z = z} {x = x} y e h = subst (λ (b : Bool). z ≡ test b x y) (sym e) h
+
+pub by-false : {A : Type 0} {t : Bool} {z y : Step A} (x : Step A) → t ≡ false → z ≡ y → z ≡ test t x y
+unfolding test
+by-false {z = z} {y = y} x e h = subst (λ (b : Bool). z ≡ test b x y) (sym e) h
+
+pub is-unfinished : {A : Type 0} {k : ℕ} (s : List ℕ) (size : ℕ) → k ≡ cond (ltb (length s) size) 1 2 → stop k (length s) ≡ unfinished {A = A} s size
+unfolding unfinished
+is-unfinished s size e = ap (λ (k : ℕ). stop k (length s)) e
+
+-- a run of steps from the i-th of n on: one more, a refusal, the end
+module _ {S : Type 0} (f : S → ℕ → Step S) (n i : ℕ) (st : S) (at : ℕ) where
+  left : i < n → n - i ≡ suc (n - (i + 1))
+  left h = omega arith
+
+  pub many-more : {st′ : S} {at′ : ℕ} → i < n → got st′ at′ ≡ f st at → many f (n - i) st at ≡ many f (n - (i + 1)) st′ at′
+  unfolding many
+  many-more h e = ap (λ (k : ℕ). many f k st at) (left h) ∙ sym (by-got (many f (n - (i + 1))) _ e refl)
+
+  pub many-stop : {k p : ℕ} → i < n → stop k p ≡ f st at → stop k p ≡ many f (n - i) st at
+  unfolding many
+  many-stop h e = by-stop (many f (n - (i + 1))) e ∙ sym (ap (λ (k : ℕ). many f k st at) (left h))
+
+  pub many-done : n ≤ i → got st at ≡ many f (n - i) st at
+  unfolding many
+  many-done h = let z : n - i ≡ 0 = omega arith in sym (ap (λ (k : ℕ). many f k st at) z)

@@ -1,0 +1,15 @@
+-- The words of the NetCDF classic format, as definitions. Each comment names the section of document 01 ("01, ..") or the
+-- rule of the format's grammar ("BNF: ..") that the definition writes down.
+pub mod Step
+pub mod Below
+pub mod Number
+pub mod Turn
+pub mod Form
+pub mod Word
+pub mod Magic
+pub mod Padding
+pub mod ListStart
+pub mod Utf8
+pub mod Name
+pub mod Types
+pub mod Values
