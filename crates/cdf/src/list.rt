@@ -4,12 +4,15 @@ ghost use Prim.Native.Nat.{_≤_};
 ghost use lib.ListN.{length};
 ghost use Rattle.cdf.specs.Word.{ofWord};
 ghost use Rattle.cdf.specs.ListStart.{listStart};
-use crate::step::{unfinished, Word};
+use crate::step::Word;
+use crate::step::unfinished;
 use crate::version::begins;
 use crate::word::parse_count;
 
 pub const DIMENSION_TAG: u8 = 0x0A;
+
 pub const VARIABLE_TAG: u8 = 0x0B;
+
 pub const ATTRIBUTE_TAG: u8 = 0x0C;
 
 // The number of items of the list at `at`, for which there is room for `room`.

@@ -5,10 +5,12 @@ ghost use lib.ListN.{length};
 ghost use Rattle.cdf.specs.Word.{ofWord};
 ghost use Rattle.cdf.specs.Magic.{ofNext};
 ghost use Rattle.cdf.specs.Name.{nameBytes, name};
-use crate::step::{unfinished, Next, Word};
-use crate::word::parse_count;
 use crate::padding::parse_zero_padding;
+use crate::step::Next;
+use crate::step::Word;
+use crate::step::unfinished;
 use crate::utf8::is_utf8;
+use crate::word::parse_count;
 
 pub const MAX_NAME: u64 = 256;
 

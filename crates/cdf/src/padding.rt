@@ -4,7 +4,8 @@ ghost use Prim.Native.Nat.{_+_, _≤_};
 ghost use lib.ListN.{length};
 ghost use Rattle.cdf.specs.Magic.{ofNext};
 ghost use Rattle.cdf.specs.Padding.{padding, zeros, zeroPadding};
-use crate::step::{unfinished, Next};
+use crate::step::Next;
+use crate::step::unfinished;
 
 // The number of padding bytes after `count` bytes.
 pub fn compute_padding_size(count: u64) -> u64

@@ -29,17 +29,27 @@ pub enum Typed {
 
 impl DataType {
     pub const CODE_I8: u8 = 1;
+
     pub const CODE_U8: u8 = 2;
+
     pub const CODE_I16: u8 = 3;
+
     pub const CODE_I32: u8 = 4;
+
     pub const CODE_F32: u8 = 5;
+
     pub const CODE_F64: u8 = 6;
 
     pub const SIZE_I8: u64 = 1;
+
     pub const SIZE_U8: u64 = 1;
+
     pub const SIZE_I16: u64 = 2;
+
     pub const SIZE_I32: u64 = 4;
+
     pub const SIZE_F32: u64 = 4;
+
     pub const SIZE_F64: u64 = 8;
 
     // The number that stands for the type in a file.

@@ -4,8 +4,9 @@ ghost use Prim.Native.Nat.{_<_, _≤_};
 ghost use lib.ListN.{length};
 ghost use Rattle.cdf.specs.Magic.{ofNext};
 ghost use Rattle.cdf.specs.Values.{bytes, values};
-use crate::step::{unfinished, Next};
 use crate::padding::parse_zero_padding;
+use crate::step::Next;
+use crate::step::unfinished;
 
 // The `count` values of `width` bytes each, and their padding.
 pub fn parse_typed_data_elements(s: &[u8], size: u64, at: usize, count: u64, width: u64) -> Next

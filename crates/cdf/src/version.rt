@@ -4,7 +4,9 @@ ghost use Prim.Native.Nat.{_≤_};
 ghost use lib.ListN.{length};
 ghost use Rattle.cdf.specs.Word.{ofWord};
 ghost use Rattle.cdf.specs.Magic.{ofNext, begins, magic, admits, version};
-use crate::step::{unfinished, Next, Word};
+use crate::step::Next;
+use crate::step::Word;
+use crate::step::unfinished;
 
 // The versions that a reader admits.
 pub struct Admitted {
