@@ -7,15 +7,15 @@ use mathlib.Core.List.{List}
 use native.Mathlib.Omega.{arith}
 use native.Mathlib.Nat.{not-suc-le-zero, le-of-suc-le-suc}
 use lib.ListN.{length, getD, replicate, length-replicate, getD-replicate}
-use lib.Dec.{ltb}
+use lib.Dec.{ltb, leb}
 use borrow.Author.Tests.{lt-leb, le-leb, leb-true}
-use Rattle.cdf.specs.Step.{Step, got, stop}
+use Rattle.cdf.specs.Step.{Step, got, stop, test, unfinished}
 use Rattle.cdf.specs.Word.{count}
 use Rattle.cdf.specs.Magic.{begins}
 use Rattle.cdf.specs.ListStart.{tagBytes, listStart}
-use Rattle.cdf.proofs.Laws.Step.{Ends, ended, stopped, test-ends, unfinished-ends, by-true, by-false, is-unfinished}
+use Rattle.cdf.proofs.Laws.Step.{Ends, ended, stopped, test-ends, unfinished-ends, by-true, by-false, is-unfinished, test-came}
 use Rattle.cdf.proofs.Laws.Below.{order}
-use Rattle.cdf.proofs.Laws.Word.{count-ends}
+use Rattle.cdf.proofs.Laws.Word.{count-ends, count-within}
 use Rattle.cdf.proofs.Laws.Magic.{begins-all, begins-at}
 
 tag-zero : (tag i : ℕ) → i < 3 → getD (tagBytes tag) i 0 ≡ 0
@@ -58,6 +58,16 @@ module _ (absent k tag room : ℕ) (s : List ℕ) (size at : ℕ) where
   pub start-bad : begins (replicate absent 0) s at ≡ false → begins (tagBytes tag) s at ≡ false → stop 9 at ≡ listStart absent k tag room s size at
   unfolding listStart
   start-bad n m = by-false _ n (by-false _ m refl)
+
+  -- the items of a list that is taken fit the room for them
+  pub start-within : {n e : ℕ} → got n e ≡ listStart absent k tag room s size at → n ≤ room
+  unfolding listStart test unfinished
+  start-within {n} {e} f = taken (begins (replicate absent 0) s at) (leb (at + absent) (length s)) f
+    where
+      taken : (b c : Bool) → got n e ≡ test b (test c (got 0 (at + absent)) (unfinished s size)) (test (begins (tagBytes tag) s at) (count room k s size (at + 4)) (stop 9 at)) → n ≤ room
+      taken true true g = let z : n ≡ 0 = cc in omega arith
+      taken true false g = let z : _≡_ {A = ℕ} 0 1 = cc in omega arith
+      taken false c g = count-within k s size (at + 4) room (test-came {t = begins (tagBytes tag) s at} {x = count room k s size (at + 4)} 9 at g .1)
 
   pub start-ends : Ends (length s) (listStart absent k tag room s size at)
   unfolding listStart

@@ -60,6 +60,23 @@ pub is-unfinished : {A : Type 0} {k : ℕ} (s : List ℕ) (size : ℕ) → k ≡
 unfolding unfinished
 is-unfinished s size e = ap (λ (k : ℕ). stop k (length s)) e
 
+-- a step that was taken came by its parts
+pub bind-came : {A B : Type 0} {b : B} {n : ℕ} (m : Step A) (f : A → ℕ → Step B) → got b n ≡ bind m f → (Q : Type 0) → ((a : A) (p : ℕ) → got a p ≡ m → got b n ≡ f a p → Q) → Q
+unfolding bind
+bind-came (got a p) f e Q k = k a p refl e
+bind-came (stop i p) f e Q k = let z : _≡_ {A = ℕ} 0 1 = cc in absurd (one-not z)
+  where
+    one-not : _≡_ {A = ℕ} 0 1 → ⊥
+    one-not z = omega arith
+
+pub test-came : {A : Type 0} {a : A} {n : ℕ} {t : Bool} {x : Step A} (k p : ℕ) → got a n ≡ test t x (stop k p) → (t ≡ true) × (got a n ≡ x)
+unfolding test
+test-came {t = true} k p e = (refl, e)
+test-came {t = false} k p e = (cc, cc)
+
+pub got-same : {A : Type 0} {a b : A} {n m : ℕ} → got a n ≡ got b m → a ≡ b
+got-same e = cc
+
 -- a run of steps from the i-th of n on: one more, a refusal, the end
 module _ {S : Type 0} (f : S → ℕ → Step S) (n i : ℕ) (st : S) (at : ℕ) where
   left : i < n → n - i ≡ suc (n - (i + 1))

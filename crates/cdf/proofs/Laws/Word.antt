@@ -6,12 +6,12 @@ use mathlib.Core.List.{List}
 use native.Mathlib.Omega.{arith}
 use lib.ListN.{length}
 use lib.Dec.{ltb, leb}
-use borrow.Author.Tests.{lt-ltb, le-ltb, lt-leb, le-leb, leb-true, eq-eqb, ne-eqb}
+use borrow.Author.Tests.{lt-ltb, le-ltb, lt-leb, le-leb, leb-true, ltb-true, eq-eqb, ne-eqb}
 use Rattle.cdf.specs.Step.{Step, got, stop, bind, test, unfinished}
 use Rattle.cdf.specs.Number.{be, half, extended}
 use Rattle.cdf.specs.Word.{word, nonNegative, openCount, count, offset}
 use Rattle.cdf.proofs.Laws.Number.{extended-8}
-use Rattle.cdf.proofs.Laws.Step.{Ends, ended, stopped, bind-ends, test-ends, unfinished-ends, by-got, by-stop, by-true, by-false, is-unfinished}
+use Rattle.cdf.proofs.Laws.Step.{Ends, ended, stopped, bind-ends, test-ends, unfinished-ends, by-got, by-stop, by-true, by-false, is-unfinished, bind-came, test-came, got-same}
 
 module _ (k : ℕ) (s : List ℕ) (size at : ℕ) where
   pub word-short : {r : ℕ} → at ≤ length s → length s - at < k → r ≡ cond (ltb (length s) size) 1 2 → stop r (length s) ≡ word k s size at
@@ -46,6 +46,10 @@ module _ (k : ℕ) (s : List ℕ) (size at : ℕ) where
   pub nonNegative-bad : {v n : ℕ} → got v n ≡ word k s size at → half k ≤ v → stop 5 at ≡ nonNegative k s size at
   unfolding nonNegative
   nonNegative-bad e h = by-got _ _ e (by-false _ (le-ltb _ _ h) refl)
+
+  pub nonNegative-below : {v n : ℕ} → got v n ≡ nonNegative k s size at → v < half k
+  unfolding nonNegative
+  nonNegative-below {v} e = bind-came _ _ e (v < half k) (λ a p _ f. let g = test-came _ _ f in let h = ltb-true a (half k) (g .0) in let i = got-same (g .1) in omega arith)
 
   pub nonNegative-ends : Ends (length s) (nonNegative k s size at)
   unfolding nonNegative
@@ -95,6 +99,10 @@ module _ (k : ℕ) (s : List ℕ) (size at : ℕ) where
     pub count-bad : {v n : ℕ} → got v n ≡ nonNegative k s size at → capacity < v → stop 10 at ≡ count capacity k s size at
     unfolding count
     count-bad e h = by-got _ _ e (by-false _ (lt-leb _ _ h) refl)
+
+    pub count-within : {v n : ℕ} → got v n ≡ count capacity k s size at → v ≤ capacity
+    unfolding count
+    count-within {v} e = bind-came _ _ e (v ≤ capacity) (λ a p _ f. let g = test-came _ _ f in let h = leb-true a capacity (g .0) in let i = got-same (g .1) in omega arith)
 
     pub count-ends : Ends (length s) (count capacity k s size at)
     unfolding count

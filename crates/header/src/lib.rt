@@ -1,0 +1,5 @@
+// The header of a NetCDF-3 file: its tables, the lists of the grammar, the model rules, the record count.
+pub mod tables; // tables.rt: the tables and their capacities
+pub mod dims; // dims.rt: the list of dimensions
+pub mod attrs; // attrs.rt: attributes, and the list of global ones
+pub mod vars; // vars.rt: the list of variables
