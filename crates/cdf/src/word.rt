@@ -12,6 +12,9 @@ use crate::step::unfinished;
 // The count word that leaves the number of records open; also a vsize that is no number word.
 pub const INDETERMINATE: u64 = 0xffff_ffff;
 
+// The first word whose sign bit is set.
+const FIRST_NEGATIVE: u64 = 0x8000_0000;
+
 fn four_bytes(s: &[u8], size: u64, at: usize) -> Word
     requires { ⌜ at ≤ length (now s) ⌝ }
     ensures { λ r. ⌜ ofWord r ≡ word 4 (now (s .entry)) size at ⌝ }
@@ -42,7 +45,7 @@ pub fn parse_non_neg(s: &[u8], size: u64, at: usize) -> Word
     match four_bytes(s, size, at) {
         Word::Stop(k, p) => Word::Stop(k, p),
         Word::Got(v, n) => {
-            if v < 0x8000_0000 {
+            if v < FIRST_NEGATIVE {
                 Word::Got(v, n)
             } else {
                 Word::Stop(5, at)
@@ -59,7 +62,7 @@ pub fn parse_open_count(s: &[u8], size: u64, at: usize) -> Word
     match four_bytes(s, size, at) {
         Word::Stop(k, p) => Word::Stop(k, p),
         Word::Got(v, n) => {
-            if v < 0x8000_0000 {
+            if v < FIRST_NEGATIVE {
                 return Word::Got(v, n);
             }
             if v == INDETERMINATE {
@@ -99,7 +102,7 @@ pub fn parse_offset(s: &[u8], size: u64, at: usize, version: u8) -> Word
     match four_bytes(s, size, at) {
         Word::Stop(k, p) => Word::Stop(k, p),
         Word::Got(v, n) => {
-            if v < 0x8000_0000 {
+            if v < FIRST_NEGATIVE {
                 Word::Got(v, n)
             } else {
                 Word::Got(v + 0xffff_ffff_0000_0000, n)

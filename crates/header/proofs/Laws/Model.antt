@@ -1,0 +1,72 @@
+-- Laws of the model rules.
+use Prim.Native.Nat.{ℕ, _+_, _≤_, _<_}
+use native.Mathlib.Omega.{arith}
+use mathlib.Core.Path.{_≡_, refl, sym, ap, _∙_}
+use mathlib.Core.Bool.{Bool, true, false, _&&_, _||_, not, and-false, or-true}
+use mathlib.Core.List.{List}
+use lib.ListN.{getD}
+use lib.Dec.{ltb, eqb}
+use borrow.Author.Tests.{lt-ltb, le-ltb, eq-eqb, ne-eqb}
+use Rattle.cdf.specs.Below.{allBelow, firstBelow}
+use Rattle.cdf.proofs.Laws.Below.{all-hold, one-fails, first-none, first-is}
+use Rattle.header.specs.Model.{Span, sameName, isNew, distinct, dimAt, varAt, idAt, unlimited, oneUnlimited, idHolds, idsHold}
+use Rattle.header.specs.declared.tables.Var.{Var}
+use Rattle.header.specs.declared.tables.Tables.{Tables}
+
+module _ (s : List ℕ) (a b : Span) where
+  pub same-all : a .chars ≡ b .chars → ((i : ℕ) → i < a .chars → getD s (a .at + i) 0 ≡ getD s (b .at + i) 0) → true ≡ sameName s a b
+  unfolding sameName
+  same-all e h = rw (eq-eqb (a .chars) (b .chars) e) (sym (all-hold _ (a .chars) (λ i l. eq-eqb _ _ (h i l))))
+
+  pub same-length : (a .chars ≡ b .chars → ⊥) → false ≡ sameName s a b
+  unfolding sameName
+  same-length n = rw (ne-eqb (a .chars) (b .chars) n)
+
+  pub same-not : (i : ℕ) → i < a .chars → (getD s (a .at + i) 0 ≡ getD s (b .at + i) 0 → ⊥) → false ≡ sameName s a b
+  unfolding sameName
+  same-not i l n = rw (one-fails _ (a .chars) i l (ne-eqb (getD s (a .at + i) 0) (getD s (b .at + i) 0) n)) (sym (and-false (eqb (a .chars) (b .chars))))
+
+module _ (s : List ℕ) (names : ℕ → Span) where
+  pub new-if : (i : ℕ) → (names i .chars ≡ 0 → ⊥) → ((j : ℕ) → j < i → sameName s (names j) (names i) ≡ false) → isNew s names i ≡ true
+  unfolding isNew
+  new-if i n h = rw (lt-ltb 0 (names i .chars) (omega arith)) (all-hold _ i (λ j l. ap not (h j l)))
+
+  pub distinct-all : (n : ℕ) → ((i : ℕ) → i < n → isNew s names i ≡ true) → true ≡ distinct s names n
+  unfolding distinct
+  distinct-all n h = sym (all-hold (isNew s names) n h)
+
+  pub distinct-empty : (n i : ℕ) → i < n → names i .chars ≡ 0 → false ≡ distinct s names n
+  unfolding distinct isNew
+  distinct-empty n i l e = sym (one-fails (isNew s names) n i l (rw (le-ltb 0 (names i .chars) (omega arith))))
+
+  pub distinct-twice : (n i j : ℕ) → i < n → j < i → sameName s (names j) (names i) ≡ true → false ≡ distinct s names n
+  unfolding distinct isNew
+  distinct-twice n i j l m e =
+      sym (one-fails (isNew s names) n i l (rw (one-fails (λ k. not (sameName s (names k) (names i))) i j m (ap not e)) (and-false (ltb 0 (names i .chars)))))
+
+module _ (t : Tables) where
+  pub unlimited-none : ((i : ℕ) → i < t .ndims → dimAt t i .length ≡ 0 → ⊥) → t .ndims ≡ unlimited t
+  unfolding unlimited
+  unlimited-none h = sym (first-none _ (t .ndims) (λ i l. ap not (ne-eqb (dimAt t i .length) 0 (h i l))))
+
+  pub unlimited-is : (i : ℕ) → i < t .ndims → ((k : ℕ) → k < i → dimAt t k .length ≡ 0 → ⊥) → dimAt t i .length ≡ 0 → i ≡ unlimited t
+  unfolding unlimited
+  unlimited-is i l h e = sym (first-is _ (t .ndims) i l (λ k m. ap not (ne-eqb (dimAt t k .length) 0 (h k m))) (ap not (eq-eqb (dimAt t i .length) 0 e)))
+
+  -- what `oneUnlimited` asks of a dimension
+  abbrev pub Single : ℕ → Type 0
+  Single i = (not (eqb (dimAt t i .length) 0) || eqb i (unlimited t)) ≡ true
+
+  pub single-fixed : (i : ℕ) → (dimAt t i .length ≡ 0 → ⊥) → Single i
+  single-fixed i n = rw (ne-eqb (dimAt t i .length) 0 n)
+
+  pub single-only : (i : ℕ) → i ≡ unlimited t → Single i
+  single-only i e = rw (eq-eqb i (unlimited t) e) (or-true (not (eqb (dimAt t i .length) 0)))
+
+  pub one-holds : ((i : ℕ) → i < t .ndims → Single i) → true ≡ oneUnlimited t
+  unfolding oneUnlimited
+  one-holds h = sym (all-hold _ (t .ndims) h)
+
+  pub one-breaks : (i : ℕ) → i < t .ndims → dimAt t i .length ≡ 0 → (i ≡ unlimited t → ⊥) → false ≡ oneUnlimited t
+  unfolding oneUnlimited
+  one-breaks i l e n = sym (one-fails _ (t .ndims) i l (rw (eq-eqb (dimAt t i .length) 0 e, ne-eqb i (unlimited t) n)))

@@ -1,0 +1,71 @@
+use borrow.Author.Needs.{needs}
+use Rattle.header.proofs.Laws.Model.{Single, single-fixed, single-only, one-holds, one-breaks}
+use Rattle.header.specs.Model.{dimAt, unlimited}
+use borrow.Author.Count.{below-none, below-more}
+use mathlib.Core.Logic.{⊎-elim}
+use mathlib.Core.Path.{_≡_, _∙_}
+use native.Mathlib.Omega.{arith}
+use Prim.Native.Nat.{ℕ, _-_, _≤_, _<_}
+use Rattle.header.proofs.model.one_unlimited.Statement.{statement}
+use Rattle.header.proofs.model.one_unlimited.Tie as tie
+use Rattle.header.proofs.model.one_unlimited.Reads as reads
+use Rattle.header.proofs.model.one_unlimited.Lts as lts
+use Rattle.header.proofs.model.unlimited.Reads as unlimited-reads
+
+abbrev Inv-loop : tie.InvT-loop
+Inv-loop t only i₀ i = (i ≤ t .ndims) × (only ≡ unlimited t) × ((k : ℕ) → k < i → Single t k)
+
+abbrev μ-loop : tie.MeasureT-loop
+μ-loop t only i₀ i = t .ndims - i
+
+-- src/model.rt:56:9
+unlimited-requires : tie.Need-unlimited-requires Inv-loop μ-loop
+unlimited-requires c κs = search needs
+
+-- src/model.rt:58:5
+loop-holds : tie.Need-loop-holds Inv-loop μ-loop
+loop-holds c = (omega arith, c .unlimited .ensures, below-none _)
+
+-- src/model.rt:59:17
+mul-d : tie.Need-mul-d Inv-loop μ-loop
+mul-d c = search needs
+
+-- src/model.rt:59:17
+element-copy-out-d : tie.Need-element-copy-out-d Inv-loop μ-loop
+element-copy-out-d c = search needs
+
+-- src/model.rt:62:17
+returns : tie.Need-returns Inv-loop μ-loop
+returns c = search needs
+
+-- src/model.rt:65:9
+add-i : tie.Need-add-i Inv-loop μ-loop
+add-i c = search needs
+
+-- src/model.rt:58:5
+loop-less : tie.Need-loop-less Inv-loop μ-loop
+loop-less c = search needs
+
+-- src/model.rt:58:5
+loop-again : tie.Need-loop-again Inv-loop μ-loop
+loop-again c = search needs
+
+-- src/model.rt:52:1
+returns-2 : tie.Need-returns-2 Inv-loop μ-loop
+returns-2 c = search needs
+
+pub one-unlimited-spec : {M : Type 1} → statement M
+one-unlimited-spec =
+    tie.close
+    (tie.spec
+    Inv-loop
+    μ-loop
+    unlimited-requires
+    loop-holds
+    mul-d
+    element-copy-out-d
+    returns
+    add-i
+    loop-less
+    loop-again
+    returns-2)

@@ -1,0 +1,64 @@
+use borrow.Author.Needs.{needs}
+use Rattle.header.proofs.Laws.Model.{unlimited-none, unlimited-is}
+use Rattle.header.specs.Model.{dimAt}
+use borrow.Author.Count.{below-none, below-more}
+use mathlib.Core.Path.{_≡_, _∙_}
+use native.Mathlib.Omega.{arith}
+use Prim.Native.Nat.{ℕ, _-_, _≤_, _<_}
+use Rattle.header.proofs.model.unlimited.Statement.{statement}
+use Rattle.header.proofs.model.unlimited.Tie as tie
+use Rattle.header.proofs.model.unlimited.Reads as reads
+use Rattle.header.proofs.model.unlimited.Lts as lts
+
+abbrev Inv-loop : tie.InvT-loop
+Inv-loop t i₀ i = (i ≤ t .ndims) × ((k : ℕ) → k < i → dimAt t k .length ≡ 0 → ⊥)
+
+abbrev μ-loop : tie.MeasureT-loop
+μ-loop t i₀ i = t .ndims - i
+
+-- src/model.rt:42:5
+loop-holds : tie.Need-loop-holds Inv-loop μ-loop
+loop-holds c = (omega arith, below-none _)
+
+-- src/model.rt:43:17
+mul-d : tie.Need-mul-d Inv-loop μ-loop
+mul-d c = search needs
+
+-- src/model.rt:43:17
+element-copy-out-d : tie.Need-element-copy-out-d Inv-loop μ-loop
+element-copy-out-d c = search needs
+
+-- src/model.rt:45:13
+returns : tie.Need-returns Inv-loop μ-loop
+returns c = search needs
+
+-- src/model.rt:47:9
+add-i : tie.Need-add-i Inv-loop μ-loop
+add-i c = search needs
+
+-- src/model.rt:42:5
+loop-less : tie.Need-loop-less Inv-loop μ-loop
+loop-less c = search needs
+
+-- src/model.rt:42:5
+loop-again : tie.Need-loop-again Inv-loop μ-loop
+loop-again c = search needs
+
+-- src/model.rt:37:1
+returns-2 : tie.Need-returns-2 Inv-loop μ-loop
+returns-2 c = search needs
+
+pub unlimited-spec : {M : Type 1} → statement M
+unlimited-spec =
+    tie.close
+    (tie.spec
+    Inv-loop
+    μ-loop
+    loop-holds
+    mul-d
+    element-copy-out-d
+    returns
+    add-i
+    loop-less
+    loop-again
+    returns-2)

@@ -1,0 +1,36 @@
+use lib.ListN.{List·getD-eq-default}
+use mathlib.Core.Path.{sym}
+use native.Mathlib.Omega.{arith}
+use borrow.Author.Needs.{needs}
+use Rattle.header.proofs.names.byte_at.Statement.{statement}
+use Rattle.header.proofs.names.byte_at.Tie as tie
+use Rattle.header.proofs.names.byte_at.Reads as reads
+use Rattle.header.proofs.names.byte_at.Lts as lts
+
+-- src/names.rt:18:9
+returns : tie.Need-returns
+returns c = sym (List·getD-eq-default _ 0 (omega arith))
+
+-- src/names.rt:20:8
+sub-if2 : tie.Need-sub-if2
+sub-if2 c = search needs
+
+-- src/names.rt:21:9
+returns-2 : tie.Need-returns-2
+returns-2 c = sym (List·getD-eq-default _ 0 (omega arith))
+
+-- src/names.rt:23:7
+add-result : tie.Need-add-result
+add-result c = search needs
+
+-- src/names.rt:23:5
+shared-slice-read-result : tie.Need-shared-slice-read-result
+shared-slice-read-result c = search needs
+
+-- src/names.rt:13:1
+returns-3 : tie.Need-returns-3
+returns-3 c = search needs
+
+pub byte-at-spec : {M : Type 1} → statement M
+byte-at-spec =
+    tie.close (tie.spec returns sub-if2 returns-2 add-result shared-slice-read-result returns-3)

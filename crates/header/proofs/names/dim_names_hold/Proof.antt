@@ -1,0 +1,114 @@
+use borrow.Author.Needs.{needs}
+use Rattle.header.proofs.Laws.Model.{new-if, distinct-all, distinct-empty, distinct-twice}
+use Rattle.header.specs.Model.{sameName, isNew, dimNames}
+use borrow.Author.Count.{below-none, below-more}
+use mathlib.Core.Bool.{true, false}
+use mathlib.Core.Path.{_≡_, sym, _∙_}
+use native.Mathlib.Omega.{arith}
+use Prim.Native.Nat.{ℕ, _+_, _-_, _≤_, _<_}
+use Rattle.header.proofs.names.dim_names_hold.Statement.{statement}
+use Rattle.header.proofs.names.dim_names_hold.Tie as tie
+use Rattle.header.proofs.names.dim_names_hold.Reads as reads
+use Rattle.header.proofs.names.dim_names_hold.Lts as lts
+use Rattle.header.proofs.names.same_name.Reads as same-name-reads
+
+abbrev Inv-loop2 : tie.InvT-loop2
+Inv-loop2 s t i a j₀ j = (j ≤ i) × ((k : ℕ) → k < j → sameName s (dimNames t k) (dimNames t i) ≡ false)
+
+abbrev μ-loop2 : tie.MeasureT-loop2
+μ-loop2 s t i a j₀ j = i - j
+
+abbrev Inv-loop : tie.InvT-loop
+Inv-loop s t i₀ i = (i ≤ t .ndims) × ((k : ℕ) → k < i → isNew s (dimNames t) k ≡ true)
+
+abbrev μ-loop : tie.MeasureT-loop
+μ-loop s t i₀ i = t .ndims - i
+
+-- src/names.rt:49:5
+loop-holds : tie.Need-loop-holds Inv-loop2 μ-loop2 Inv-loop μ-loop
+loop-holds c = (omega arith, below-none _)
+
+-- src/names.rt:50:17
+mul-a : tie.Need-mul-a Inv-loop2 μ-loop2 Inv-loop μ-loop
+mul-a c = search needs
+
+-- src/names.rt:50:17
+element-copy-out-a : tie.Need-element-copy-out-a Inv-loop2 μ-loop2 Inv-loop μ-loop
+element-copy-out-a c = search needs
+
+-- src/names.rt:52:13
+returns : tie.Need-returns Inv-loop2 μ-loop2 Inv-loop μ-loop
+returns c = search needs
+
+-- src/names.rt:55:9
+loop2-holds : tie.Need-loop2-holds Inv-loop2 μ-loop2 Inv-loop μ-loop
+loop2-holds c = (omega arith, below-none _)
+
+-- src/names.rt:56:21
+mul-b : tie.Need-mul-b Inv-loop2 μ-loop2 Inv-loop μ-loop
+mul-b c = search needs
+
+-- src/names.rt:56:21
+element-copy-out-b : tie.Need-element-copy-out-b Inv-loop2 μ-loop2 Inv-loop μ-loop
+element-copy-out-b c = search needs
+
+-- src/names.rt:57:16
+same-name-requires : tie.Need-same-name-requires Inv-loop2 μ-loop2 Inv-loop μ-loop
+same-name-requires c κs = search needs
+
+-- src/names.rt:58:17
+returns-2 : tie.Need-returns-2 Inv-loop2 μ-loop2 Inv-loop μ-loop
+returns-2 c = search needs
+
+-- src/names.rt:60:13
+add-j : tie.Need-add-j Inv-loop2 μ-loop2 Inv-loop μ-loop
+add-j c = search needs
+
+-- src/names.rt:55:9
+loop2-less : tie.Need-loop2-less Inv-loop2 μ-loop2 Inv-loop μ-loop
+loop2-less c = search needs
+
+-- src/names.rt:55:9
+loop2-again : tie.Need-loop2-again Inv-loop2 μ-loop2 Inv-loop μ-loop
+loop2-again c = search needs
+
+-- src/names.rt:62:9
+add-i : tie.Need-add-i Inv-loop2 μ-loop2 Inv-loop μ-loop
+add-i c = search needs
+
+-- src/names.rt:49:5
+loop-less : tie.Need-loop-less Inv-loop2 μ-loop2 Inv-loop μ-loop
+loop-less c = search needs
+
+-- src/names.rt:49:5
+loop-again : tie.Need-loop-again Inv-loop2 μ-loop2 Inv-loop μ-loop
+loop-again c = search needs
+
+-- src/names.rt:44:1
+returns-3 : tie.Need-returns-3 Inv-loop2 μ-loop2 Inv-loop μ-loop
+returns-3 c = search needs
+
+pub dim-names-hold-spec : {M : Type 1} → statement M
+dim-names-hold-spec =
+    tie.close
+    (tie.spec
+    Inv-loop2
+    μ-loop2
+    Inv-loop
+    μ-loop
+    loop-holds
+    mul-a
+    element-copy-out-a
+    returns
+    loop2-holds
+    mul-b
+    element-copy-out-b
+    same-name-requires
+    returns-2
+    add-j
+    loop2-less
+    loop2-again
+    add-i
+    loop-less
+    loop-again
+    returns-3)

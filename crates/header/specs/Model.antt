@@ -1,0 +1,77 @@
+-- The model rules (01, Model rules), over the tables t of the bytes s.
+use Prim.Native.Nat.{ℕ, _+_}
+use mathlib.Core.Bool.{Bool, _&&_, _||_, not}
+use mathlib.Core.List.{List}
+use lib.ListN.{getD}
+use lib.Dec.{ltb, eqb}
+use Rattle.cdf.specs.Below.{allBelow, firstBelow}
+use Rattle.header.specs.Tables.{noDim, noAttr, noVar}
+use Rattle.header.specs.declared.tables.Dim.{Dim}
+use Rattle.header.specs.declared.tables.Attr.{Attr}
+use Rattle.header.specs.declared.tables.Var.{Var}
+use Rattle.header.specs.declared.tables.Tables.{Tables}
+
+abbrev pub dimAt : Tables → ℕ → Dim
+dimAt t i = getD (t .dims) i noDim
+
+abbrev pub attrAt : Tables → ℕ → Attr
+attrAt t i = getD (t .attrs) i noAttr
+
+abbrev pub varAt : Tables → ℕ → Var
+varAt t i = getD (t .vars) i noVar
+
+abbrev pub idAt : Var → ℕ → ℕ
+idAt v k = getD (v .ids) k 0
+
+-- where a name stands: its place and the number of its bytes
+pub record Span : Type 0 where
+  pub at : ℕ
+  pub chars : ℕ
+
+-- two names have the same bytes
+unfoldable pub sameName : List ℕ → Span → Span → Bool
+sameName s a b = eqb (a .chars) (b .chars) && allBelow (a .chars) (λ i. eqb (getD s (a .at + i) 0) (getD s (b .at + i) 0))
+
+-- "No name is empty or twice in its list": the i-th is not empty, and none before it is the same
+unfoldable pub isNew : List ℕ → (ℕ → Span) → ℕ → Bool
+isNew s names i = ltb 0 (names i .chars) && allBelow i (λ j. not (sameName s (names j) (names i)))
+
+unfoldable pub distinct : List ℕ → (ℕ → Span) → ℕ → Bool
+distinct s names n = allBelow n (isNew s names)
+
+abbrev pub dimNames : Tables → ℕ → Span
+dimNames t i = record { at = dimAt t i .name; chars = dimAt t i .chars }
+
+abbrev pub varNames : Tables → ℕ → Span
+varNames t i = record { at = varAt t i .name; chars = varAt t i .chars }
+
+-- the names of the attributes from `first` on
+abbrev pub attrNames : Tables → ℕ → ℕ → Span
+attrNames t first i = record { at = attrAt t (first + i) .name; chars = attrAt t (first + i) .chars }
+
+-- "(dimensions, variables, each attribute list)"
+unfoldable pub namesHold : List ℕ → Tables → Bool
+namesHold s t =
+    distinct s (dimNames t) (t .ndims)
+    && (distinct s (varNames t) (t .nvars)
+    && (distinct s (attrNames t 0) (t .globals)
+    && allBelow (t .nvars) (λ i. distinct s (attrNames t (varAt t i .first)) (varAt t i .attrs))))
+
+-- the first dimension of length 0, or the number of dimensions where there is none
+unfoldable pub unlimited : Tables → ℕ
+unlimited t = firstBelow (t .ndims) (λ i. not (eqb (dimAt t i .length) 0))
+
+-- "at most one unlimited dimension": one of length 0 is the first such
+unfoldable pub oneUnlimited : Tables → Bool
+oneUnlimited t = allBelow (t .ndims) (λ i. not (eqb (dimAt t i .length) 0) || eqb i (unlimited t))
+
+-- "every id below the number of dimensions; the unlimited one only first in a variable"
+unfoldable pub idHolds : Tables → Var → ℕ → Bool
+idHolds t v k = ltb (idAt v k) (t .ndims) && (eqb k 0 || not (eqb (dimAt t (idAt v k) .length) 0))
+
+unfoldable pub idsHold : Tables → Bool
+idsHold t = allBelow (t .nvars) (λ i. allBelow (varAt t i .rank) (idHolds t (varAt t i)))
+
+-- rule 11
+unfoldable pub modelHolds : List ℕ → Tables → Bool
+modelHolds s t = namesHold s t && (oneUnlimited t && idsHold t)

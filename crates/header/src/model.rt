@@ -1,0 +1,68 @@
+// The model rules, as the tables of a header are judged by them.
+ghost use mathlib.Core.Path.{_≡_};
+ghost use Prim.Native.Nat.{_≤_};
+ghost use Rattle.header.specs.Model.{namesHold, unlimited, oneUnlimited, idHolds, idsHold, modelHolds};
+ghost use Rattle.header.specs.Within.{Within};
+use crate::names::{attr_names_hold, dim_names_hold, var_names_hold};
+use crate::tables::{Attr, Dim, Tables, Var};
+
+fn names_hold(s: &[u8], t: Tables) -> bool
+    requires { ⌜ Within t ⌝ }
+    ensures { λ r. ⌜ r ≡ namesHold (now (s .entry)) t ⌝ }
+{
+    if !dim_names_hold(s, t) {
+        return false;
+    }
+    if !var_names_hold(s, t) {
+        return false;
+    }
+    let globals = t.globals;
+    if !attr_names_hold(s, t, 0, globals) {
+        return false;
+    }
+    let mut i = 0;
+    while i < t.nvars {
+        let v = t.vars[i];
+        let first = v.first;
+        let n = v.attrs;
+        if !attr_names_hold(s, t, first, n) {
+            return false;
+        }
+        i += 1;
+    }
+    true
+}
+
+// The number of the unlimited dimension, or the number of dimensions where there is none.
+pub fn unlimited(t: Tables) -> usize
+    requires { ⌜ t .ndims ≤ 32 ⌝ }
+    ensures { λ r. ⌜ r ≡ unlimited t ⌝ }
+{
+    let mut i = 0;
+    while i < t.ndims {
+        let d = t.dims[i];
+        if d.length == 0 {
+            return i;
+        }
+        i += 1;
+    }
+    i
+}
+
+fn one_unlimited(t: Tables) -> bool
+    requires { ⌜ t .ndims ≤ 32 ⌝ }
+    ensures { λ r. ⌜ r ≡ oneUnlimited t ⌝ }
+{
+    let only = unlimited(t);
+    let mut i = 0;
+    while i < t.ndims {
+        let d = t.dims[i];
+        if d.length == 0 {
+            if i != only {
+                return false;
+            }
+        }
+        i += 1;
+    }
+    true
+}

@@ -1,0 +1,113 @@
+// Names of one list: none empty, none twice.
+ghost use mathlib.Core.Path.{_≡_};
+ghost use mathlib.Core.Bool.{_&&_};
+ghost use Prim.Native.Nat.{_+_, _≤_, _<_};
+ghost use lib.ListN.{length, getD};
+ghost use lib.Dec.{ltb};
+ghost use Rattle.cdf.specs.Below.{allBelow};
+ghost use Rattle.header.specs.Model.{Span, sameName, distinct, dimNames, varNames, attrNames};
+ghost use Rattle.header.specs.Within.{Within};
+use crate::tables::{Attr, Dim, Tables, Var};
+
+// The byte `i` places after `at`, or 0 past the end.
+fn byte_at(s: &[u8], at: usize, i: usize) -> u8
+    ensures { λ r. ⌜ r ≡ getD (now (s .entry)) (at + i) 0 ⌝ }
+{
+    let n = s.len();
+    if n <= at {
+        return 0;
+    }
+    if n - at <= i {
+        return 0;
+    }
+    s[at + i]
+}
+
+// Whether two names have the same bytes.
+pub fn same_name(s: &[u8], a: usize, achars: usize, b: usize, bchars: usize) -> bool
+    ensures { λ r. ⌜ r ≡ sameName (now (s .entry)) (record { at = a; chars = achars }) (record { at = b; chars = bchars }) ⌝ }
+{
+    if achars != bchars {
+        return false;
+    }
+    let mut i = 0;
+    while i < achars {
+        if byte_at(s, a, i) != byte_at(s, b, i) {
+            return false;
+        }
+        i += 1;
+    }
+    true
+}
+
+// Whether no dimension's name is empty or stands before.
+pub fn dim_names_hold(s: &[u8], t: Tables) -> bool
+    requires { ⌜ t .ndims ≤ 32 ⌝ }
+    ensures { λ r. ⌜ r ≡ distinct (now (s .entry)) (dimNames t) (t .ndims) ⌝ }
+{
+    let mut i = 0;
+    while i < t.ndims {
+        let a = t.dims[i];
+        if a.chars == 0 {
+            return false;
+        }
+        let mut j = 0;
+        while j < i {
+            let b = t.dims[j];
+            if same_name(s, b.name, b.chars, a.name, a.chars) {
+                return false;
+            }
+            j += 1;
+        }
+        i += 1;
+    }
+    true
+}
+
+// Whether no variable's name is empty or stands before.
+pub fn var_names_hold(s: &[u8], t: Tables) -> bool
+    requires { ⌜ t .nvars ≤ 64 ⌝ }
+    ensures { λ r. ⌜ r ≡ distinct (now (s .entry)) (varNames t) (t .nvars) ⌝ }
+{
+    let mut i = 0;
+    while i < t.nvars {
+        let a = t.vars[i];
+        if a.chars == 0 {
+            return false;
+        }
+        let mut j = 0;
+        while j < i {
+            let b = t.vars[j];
+            if same_name(s, b.name, b.chars, a.name, a.chars) {
+                return false;
+            }
+            j += 1;
+        }
+        i += 1;
+    }
+    true
+}
+
+// Whether no name of the `n` attributes from `first` on is empty or stands before.
+pub fn attr_names_hold(s: &[u8], t: Tables, first: usize, n: usize) -> bool
+    requires { ⌜ first + n ≤ 128 ⌝ }
+    ensures { λ r. ⌜ r ≡ distinct (now (s .entry)) (attrNames t first) n ⌝ }
+{
+    let mut i = 0;
+    while i < n {
+        let a = t.attrs[first + i];
+        if a.chars == 0 {
+            return false;
+        }
+        let mut j = 0;
+        while j < i {
+            let b = t.attrs[first + j];
+            if same_name(s, b.name, b.chars, a.name, a.chars) {
+                return false;
+            }
+            j += 1;
+        }
+        i += 1;
+    }
+    true
+}
