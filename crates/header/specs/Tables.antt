@@ -1,6 +1,6 @@
 -- The tables that a header is read into (01, What is taken from the crate; Capacities). Rows past a count are zero.
 use Prim.Native.Nat.{ℕ, _+_}
-use mathlib.Core.List.{List}
+use mathlib.Core.List.{[]}
 use lib.ListN.{replicate, set}
 use Rattle.header.specs.declared.tables.Dim.{Dim}
 use Rattle.header.specs.declared.tables.Attr.{Attr}
@@ -26,8 +26,12 @@ noDim = record { name = 0; chars = 0; length = 0 }
 abbrev pub noAttr : Attr
 noAttr = record { name = 0; chars = 0; code = 0; count = 0; values = 0 }
 
+abbrev pub zeroVar : Var
+zeroVar = record { name = 0; chars = 0; rank = 0; ids = replicate maxRank 0; first = 0; attrs = 0; code = 0; vsize = 0; begin = 0 }
+
+-- what `varAt` gives past the end of the rows, where no row is; the language's own value for it
 abbrev pub noVar : Var
-noVar = record { name = 0; chars = 0; rank = 0; ids = replicate maxRank 0; first = 0; attrs = 0; code = 0; vsize = 0; begin = 0 }
+noVar = record { name = 0; chars = 0; rank = 0; ids = []; first = 0; attrs = 0; code = 0; vsize = 0; begin = 0 }
 
 -- tables of a version, count word and size with no rows yet
 unfoldable pub started : ℕ → ℕ → ℕ → Tables
@@ -43,7 +47,7 @@ started v w z =
       globals = 0;
       attrs = replicate maxAttrs noAttr;
       nvars = 0;
-      vars = replicate maxVars noVar;
+      vars = replicate maxVars zeroVar;
     }
 
 -- 01, Answer numbers: "tables of version 1 with all else 0"

@@ -9,7 +9,7 @@ use lib.Dec.{ltb, eqb}
 use borrow.Author.Tests.{lt-ltb, le-ltb, eq-eqb, ne-eqb}
 use Rattle.cdf.specs.Below.{allBelow, firstBelow}
 use Rattle.cdf.proofs.Laws.Below.{all-hold, one-fails, first-none, first-is}
-use Rattle.header.specs.Model.{Span, sameName, isNew, distinct, dimAt, varAt, idAt, unlimited, oneUnlimited, idHolds, idsHold}
+use Rattle.header.specs.Model.{Span, sameName, isNew, distinct, dimNames, varNames, attrNames, namesHold, dimAt, varAt, idAt, unlimited, oneUnlimited, idHolds, idsHold}
 use Rattle.header.specs.declared.tables.Var.{Var}
 use Rattle.header.specs.declared.tables.Tables.{Tables}
 
@@ -70,3 +70,31 @@ module _ (t : Tables) where
   pub one-breaks : (i : ℕ) → i < t .ndims → dimAt t i .length ≡ 0 → (i ≡ unlimited t → ⊥) → false ≡ oneUnlimited t
   unfolding oneUnlimited
   one-breaks i l e n = sym (one-fails _ (t .ndims) i l (rw (eq-eqb (dimAt t i .length) 0 e, ne-eqb i (unlimited t) n)))
+
+-- the names of the tables, by their lists
+module _ (s : List ℕ) (t : Tables) where
+  pub names-dims : distinct s (dimNames t) (t .ndims) ≡ false → false ≡ namesHold s t
+  unfolding namesHold
+  names-dims e = rw e
+
+  pub names-vars : distinct s (varNames t) (t .nvars) ≡ false → false ≡ namesHold s t
+  unfolding namesHold
+  names-vars e = rw e (sym (and-false (distinct s (dimNames t) (t .ndims))))
+
+  module _ (dims : distinct s (dimNames t) (t .ndims) ≡ true) (vars : distinct s (varNames t) (t .nvars) ≡ true) where
+    pub names-globals : distinct s (attrNames t 0) (t .globals) ≡ false → false ≡ namesHold s t
+    unfolding namesHold
+    names-globals e = rw (dims, vars, e)
+
+    -- the names of a variable's attributes
+    abbrev pub Own : ℕ → Bool
+    Own i = distinct s (attrNames t (varAt t i .first)) (varAt t i .attrs)
+
+    module _ (globals : distinct s (attrNames t 0) (t .globals) ≡ true) where
+      pub names-own : (i : ℕ) → i < t .nvars → Own i ≡ false → false ≡ namesHold s t
+      unfolding namesHold
+      names-own i l e = rw (dims, vars, globals) (sym (one-fails Own (t .nvars) i l e))
+
+      pub names-all : ((i : ℕ) → i < t .nvars → Own i ≡ true) → true ≡ namesHold s t
+      unfolding namesHold
+      names-all h = rw (dims, vars, globals) (sym (all-hold Own (t .nvars) h))

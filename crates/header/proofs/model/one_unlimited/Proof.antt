@@ -3,7 +3,7 @@ use Rattle.header.proofs.Laws.Model.{Single, single-fixed, single-only,
 use Rattle.header.specs.Model.{dimAt, unlimited}
 use borrow.Author.Count.{below-none, below-more}
 use mathlib.Core.Logic.{⊎-elim}
-use mathlib.Core.Path.{_≡_, _∙_}
+use mathlib.Core.Path.{_≡_, sym, _∙_}
 use native.Mathlib.Omega.{arith}
 use Prim.Native.Nat.{ℕ, _-_, _≤_, _<_}
 use Rattle.header.proofs.model.one_unlimited.Statement.{statement}
@@ -36,7 +36,7 @@ element-copy-out-d c = search needs
 
 -- src/model.rt:62:17
 returns : tie.Need-returns Inv-loop μ-loop
-returns c = search needs
+returns c = one-breaks _ _ (c .before .before .before .before .loop-test .taken) (c .before .if1 .taken) (λ e. c .if2 .taken (e ∙ sym (c .before .before .before .before .before .loop .inv .1)))
 
 -- src/model.rt:65:9
 add-i : tie.Need-add-i Inv-loop μ-loop
@@ -48,11 +48,11 @@ loop-less c = search needs
 
 -- src/model.rt:58:5
 loop-again : tie.Need-loop-again Inv-loop μ-loop
-loop-again c = search needs
+loop-again c = let t = c .before .before .before .before .before .before .args .t1 in let l = c .before .before .before .before .loop in (omega arith, l .inv .1, below-more _ _ (l .inv .2) (⊎-elim (λ w. single-only t (l .i) (w .1 .left ∙ l .inv .1)) (λ w. single-fixed t (l .i) (w .left)) (c .if1 .came)))
 
 -- src/model.rt:52:1
 returns-2 : tie.Need-returns-2 Inv-loop μ-loop
-returns-2 c = search needs
+returns-2 c = one-holds _ (λ k l. c .before .loop .inv .2 k (omega arith))
 
 pub one-unlimited-spec : {M : Type 1} → statement M
 one-unlimited-spec =

@@ -30,7 +30,7 @@ element-copy-out-d c = search needs
 
 -- src/model.rt:45:13
 returns : tie.Need-returns Inv-loop μ-loop
-returns c = search needs
+returns c = unlimited-is _ _ (c .before .before .before .loop-test .taken) (c .before .before .before .before .loop .inv .1) (c .if1 .taken)
 
 -- src/model.rt:47:9
 add-i : tie.Need-add-i Inv-loop μ-loop
@@ -42,11 +42,11 @@ loop-less c = search needs
 
 -- src/model.rt:42:5
 loop-again : tie.Need-loop-again Inv-loop μ-loop
-loop-again c = search needs
+loop-again c = (omega arith, below-more _ _ (c .before .before .before .before .loop .inv .1) (c .if1 .left))
 
 -- src/model.rt:37:1
 returns-2 : tie.Need-returns-2 Inv-loop μ-loop
-returns-2 c = search needs
+returns-2 c = let l = c .before .loop in let e : l .i ≡ c .before .before .args .t1 .ndims = omega arith in e ∙ unlimited-none _ (λ k h. l .inv .1 k (omega arith))
 
 pub unlimited-spec : {M : Type 1} → statement M
 unlimited-spec =

@@ -42,7 +42,7 @@ element-copy-out-a c = search needs
 
 -- src/names.rt:100:13
 returns : tie.Need-returns Inv-loop2 μ-loop2 Inv-loop μ-loop
-returns c = search needs
+returns c = distinct-empty _ _ _ _ (c .before .before .before .loop-test .taken) (c .if1 .taken)
 
 -- src/names.rt:103:9
 loop2-holds : tie.Need-loop2-holds Inv-loop2 μ-loop2 Inv-loop μ-loop
@@ -66,7 +66,7 @@ same-name-requires c κs = search needs
 
 -- src/names.rt:106:17
 returns-2 : tie.Need-returns-2 Inv-loop2 μ-loop2 Inv-loop μ-loop
-returns-2 c = search needs
+returns-2 c = distinct-twice _ _ _ _ _ (c .before .before .before .before .before .before .before .before .loop-test .taken) (c .before .before .before .loop2-test .taken) (sym (c .before .same-name .ensures) ∙ c .if2 .taken)
 
 -- src/names.rt:108:13
 add-j : tie.Need-add-j Inv-loop2 μ-loop2 Inv-loop μ-loop
@@ -78,7 +78,7 @@ loop2-less c = search needs
 
 -- src/names.rt:103:9
 loop2-again : tie.Need-loop2-again Inv-loop2 μ-loop2 Inv-loop μ-loop
-loop2-again c = search needs
+loop2-again c = (omega arith, below-more _ _ (c .before .before .before .before .loop2 .inv .1) (sym (c .before .same-name .ensures) ∙ c .if2 .left))
 
 -- src/names.rt:110:9
 add-i : tie.Need-add-i Inv-loop2 μ-loop2 Inv-loop μ-loop
@@ -90,11 +90,11 @@ loop-less c = search needs
 
 -- src/names.rt:97:5
 loop-again : tie.Need-loop-again Inv-loop2 μ-loop2 Inv-loop μ-loop
-loop-again c = search needs
+loop-again c = (omega arith, below-more _ _ (c .before .before .before .before .before .before .loop .inv .1) (new-if _ _ _ (c .before .before .if1 .left) (λ k l. c .before .loop2 .inv .1 k (omega arith))))
 
 -- src/names.rt:92:1
 returns-3 : tie.Need-returns-3 Inv-loop2 μ-loop2 Inv-loop μ-loop
-returns-3 c = search needs
+returns-3 c = distinct-all _ _ _ (λ k l. c .before .loop .inv .1 k (omega arith))
 
 pub attr-names-hold-spec : {M : Type 1} → statement M
 attr-names-hold-spec =

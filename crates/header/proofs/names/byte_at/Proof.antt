@@ -1,5 +1,6 @@
-use lib.ListN.{List·getD-eq-default}
-use mathlib.Core.Path.{sym}
+use Prim.Native.Nat.{_+_, _≤_}
+use lib.ListN.{List·getD-eq-default, length}
+use mathlib.Core.Path.{sym, _≡_}
 use native.Mathlib.Omega.{arith}
 use borrow.Author.Needs.{needs}
 use Rattle.header.proofs.names.byte_at.Statement.{statement}
@@ -9,7 +10,7 @@ use Rattle.header.proofs.names.byte_at.Lts as lts
 
 -- src/names.rt:18:9
 returns : tie.Need-returns
-returns c = sym (List·getD-eq-default _ 0 (omega arith))
+returns c = let h : length (c .before .args .s .now) ≤ c .before .args .at + c .before .args .i = omega arith in sym (List·getD-eq-default (c .before .args .s .now) 0 h)
 
 -- src/names.rt:20:8
 sub-if2 : tie.Need-sub-if2
@@ -17,7 +18,7 @@ sub-if2 c = search needs
 
 -- src/names.rt:21:9
 returns-2 : tie.Need-returns-2
-returns-2 c = sym (List·getD-eq-default _ 0 (omega arith))
+returns-2 c = let h : length (c .before .before .args .s .now) ≤ c .before .before .args .at + c .before .before .args .i = omega arith in sym (List·getD-eq-default (c .before .before .args .s .now) 0 h)
 
 -- src/names.rt:23:7
 add-result : tie.Need-add-result

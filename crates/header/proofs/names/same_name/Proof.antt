@@ -35,7 +35,7 @@ byte-at-requires-2 c κs = search needs
 
 -- src/names.rt:36:13
 returns-2 : tie.Need-returns-2 Inv-loop μ-loop
-returns-2 c = search needs
+returns-2 c = same-not _ _ _ _ (c .before .before .before .loop-test .taken) (λ e. c .if2 .taken (c .before .before .byte-at .ensures ∙ e ∙ sym (c .before .byte-at2 .ensures)))
 
 -- src/names.rt:38:9
 add-i : tie.Need-add-i Inv-loop μ-loop
@@ -47,11 +47,11 @@ loop-less c = search needs
 
 -- src/names.rt:34:5
 loop-again : tie.Need-loop-again Inv-loop μ-loop
-loop-again c = search needs
+loop-again c = (omega arith, c .before .before .before .before .loop .inv .1, below-more _ _ (c .before .before .before .before .loop .inv .2) (sym (c .before .before .byte-at .ensures) ∙ c .if2 .left ∙ c .before .byte-at2 .ensures))
 
 -- src/names.rt:27:1
 returns-3 : tie.Need-returns-3 Inv-loop μ-loop
-returns-3 c = search needs
+returns-3 c = same-all _ _ _ (c .before .loop .inv .1) (λ k l. c .before .loop .inv .2 k (omega arith))
 
 pub same-name-spec : {M : Type 1} → statement M
 same-name-spec =

@@ -38,7 +38,7 @@ element-copy-out-a c = search needs
 
 -- src/names.rt:76:13
 returns : tie.Need-returns Inv-loop2 μ-loop2 Inv-loop μ-loop
-returns c = search needs
+returns c = distinct-empty _ _ _ _ (c .before .before .before .loop-test .taken) (c .if1 .taken)
 
 -- src/names.rt:79:9
 loop2-holds : tie.Need-loop2-holds Inv-loop2 μ-loop2 Inv-loop μ-loop
@@ -58,7 +58,7 @@ same-name-requires c κs = search needs
 
 -- src/names.rt:82:17
 returns-2 : tie.Need-returns-2 Inv-loop2 μ-loop2 Inv-loop μ-loop
-returns-2 c = search needs
+returns-2 c = distinct-twice _ _ _ _ _ (c .before .before .before .before .before .before .before .before .loop-test .taken) (c .before .before .before .loop2-test .taken) (sym (c .before .same-name .ensures) ∙ c .if2 .taken)
 
 -- src/names.rt:84:13
 add-j : tie.Need-add-j Inv-loop2 μ-loop2 Inv-loop μ-loop
@@ -70,7 +70,7 @@ loop2-less c = search needs
 
 -- src/names.rt:79:9
 loop2-again : tie.Need-loop2-again Inv-loop2 μ-loop2 Inv-loop μ-loop
-loop2-again c = search needs
+loop2-again c = (omega arith, below-more _ _ (c .before .before .before .before .loop2 .inv .1) (sym (c .before .same-name .ensures) ∙ c .if2 .left))
 
 -- src/names.rt:86:9
 add-i : tie.Need-add-i Inv-loop2 μ-loop2 Inv-loop μ-loop
@@ -82,11 +82,11 @@ loop-less c = search needs
 
 -- src/names.rt:73:5
 loop-again : tie.Need-loop-again Inv-loop2 μ-loop2 Inv-loop μ-loop
-loop-again c = search needs
+loop-again c = (omega arith, below-more _ _ (c .before .before .before .before .before .before .loop .inv .1) (new-if _ _ _ (c .before .before .if1 .left) (λ k l. c .before .loop2 .inv .1 k (omega arith))))
 
 -- src/names.rt:68:1
 returns-3 : tie.Need-returns-3 Inv-loop2 μ-loop2 Inv-loop μ-loop
-returns-3 c = search needs
+returns-3 c = distinct-all _ _ _ (λ k l. c .before .loop .inv .1 k (omega arith))
 
 pub var-names-hold-spec : {M : Type 1} → statement M
 var-names-hold-spec =
