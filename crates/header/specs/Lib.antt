@@ -7,4 +7,7 @@ pub mod Attrs
 pub mod Vars
 pub mod Grammar
 pub mod Model
+pub mod Records
+pub mod Count
+pub mod Header
 pub mod Meaning

@@ -5,3 +5,6 @@ pub mod attrs; // attrs.rt: attributes, and the list of global ones
 pub mod vars; // vars.rt: the list of variables
 pub mod names; // names.rt: names that are not empty and differ
 pub mod model; // model.rt: the model rules
+pub mod records; // records.rt: chunks, record size and where variables end
+pub mod count; // count.rt: the record count
+pub mod reader; // reader.rt: the header reader

@@ -66,3 +66,44 @@ fn one_unlimited(t: Tables) -> bool
     }
     true
 }
+
+// Whether every id names a dimension, and the unlimited dimension stands only first.
+fn ids_hold(t: Tables) -> bool
+    requires { ⌜ Within t ⌝ }
+    ensures { λ r. ⌜ r ≡ idsHold t ⌝ }
+{
+    let mut i = 0;
+    while i < t.nvars {
+        let v = t.vars[i];
+        let mut k = 0;
+        while k < v.rank {
+            let id = v.ids[k] as usize;
+            if t.ndims <= id {
+                return false;
+            }
+            let d = t.dims[id];
+            if 0 < k {
+                if d.length == 0 {
+                    return false;
+                }
+            }
+            k += 1;
+        }
+        i += 1;
+    }
+    true
+}
+
+// Rule 11.
+pub fn model_holds(s: &[u8], t: Tables) -> bool
+    requires { ⌜ Within t ⌝ }
+    ensures { λ r. ⌜ r ≡ modelHolds (now (s .entry)) t ⌝ }
+{
+    if !names_hold(s, t) {
+        return false;
+    }
+    if !one_unlimited(t) {
+        return false;
+    }
+    ids_hold(t)
+}

@@ -169,7 +169,7 @@ fn joined(row: Var, first: usize, attrs: usize, tail: Tail) -> Var
 }
 
 // A refusal on the way, with the tables as they are.
-fn stopped(k: u8, p: usize, tables: Tables) -> Listed
+pub fn stopped(k: u8, p: usize, tables: Tables) -> Listed
     requires { ⌜ Within tables ⌝ }
     ensures { λ r. ⌜ (ofListed r ≡ stop k p) × Within (r .tables) ⌝ }
 {

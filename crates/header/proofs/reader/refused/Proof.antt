@@ -1,0 +1,17 @@
+use borrow.Author.Needs.{needs}
+use Rattle.header.proofs.reader.refused.Statement.{statement}
+use Rattle.header.proofs.reader.refused.Tie as tie
+use Rattle.header.proofs.reader.refused.Reads as reads
+use Rattle.header.proofs.reader.refused.Lts as lts
+use Rattle.header.proofs.tables.blank.Reads as blank-reads
+
+-- src/reader.rt:69:17
+blank-requires : tie.Need-blank-requires
+blank-requires c κs = search needs
+
+-- src/reader.rt:62:1
+returns : tie.Need-returns
+returns c = ?
+
+pub refused-spec : {M : Type 1} → statement M
+refused-spec = tie.close (tie.spec blank-requires returns)

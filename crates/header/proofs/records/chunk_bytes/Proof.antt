@@ -1,0 +1,44 @@
+use borrow.Author.Needs.{needs}
+use Rattle.header.proofs.records.chunk_bytes.Statement.{statement}
+use Rattle.header.proofs.records.chunk_bytes.Tie as tie
+use Rattle.header.proofs.records.chunk_bytes.Reads as reads
+use Rattle.header.proofs.records.chunk_bytes.Lts as lts
+use Rattle.cdf.proofs.types.DataType.of_code.Reads as of-code-reads
+use Rattle.cdf.proofs.types.DataType.size_of.Reads as size-of-reads
+use Rattle.header.proofs.records.chunk_len.Reads as chunk-len-reads
+use Rattle.header.proofs.records.times.Reads as times-reads
+
+-- src/records.rt:75:34
+cast-of-code : tie.Need-cast-of-code
+cast-of-code c = search needs
+
+-- src/records.rt:75:9
+of-code-requires : tie.Need-of-code-requires
+of-code-requires c κs = search needs
+
+-- src/records.rt:76:11
+chunk-len-requires : tie.Need-chunk-len-requires
+chunk-len-requires c κs = search needs
+
+-- src/records.rt:76:31
+size-of-requires : tie.Need-size-of-requires
+size-of-requires c κs = search needs
+
+-- src/records.rt:76:5
+times-requires : tie.Need-times-requires
+times-requires c κs = search needs
+
+-- src/records.rt:71:1
+returns : tie.Need-returns
+returns c = ?
+
+pub chunk-bytes-spec : {M : Type 1} → statement M
+chunk-bytes-spec =
+    tie.close
+    (tie.spec
+    cast-of-code
+    of-code-requires
+    chunk-len-requires
+    size-of-requires
+    times-requires
+    returns)

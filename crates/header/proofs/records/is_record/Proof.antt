@@ -1,0 +1,33 @@
+use borrow.Author.Needs.{needs}
+use Rattle.header.proofs.records.is_record.Statement.{statement}
+use Rattle.header.proofs.records.is_record.Tie as tie
+use Rattle.header.proofs.records.is_record.Reads as reads
+use Rattle.header.proofs.records.is_record.Lts as lts
+
+-- src/records.rt:44:9
+returns : tie.Need-returns
+returns c = ?
+
+-- src/records.rt:46:14
+element-copy-out-id : tie.Need-element-copy-out-id
+element-copy-out-id c = search needs
+
+-- src/records.rt:46:14
+cast-id : tie.Need-cast-id
+cast-id c = search needs
+
+-- src/records.rt:47:13
+mul-d : tie.Need-mul-d
+mul-d c = ?
+
+-- src/records.rt:47:13
+array-copy-out-d : tie.Need-array-copy-out-d
+array-copy-out-d c = ?
+
+-- src/records.rt:39:1
+returns-2 : tie.Need-returns-2
+returns-2 c = ?
+
+pub is-record-spec : {M : Type 1} → statement M
+is-record-spec =
+    tie.close (tie.spec returns element-copy-out-id cast-id mul-d array-copy-out-d returns-2)

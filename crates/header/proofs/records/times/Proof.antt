@@ -1,0 +1,32 @@
+use borrow.Author.Needs.{needs}
+use Rattle.header.proofs.records.times.Statement.{statement}
+use Rattle.header.proofs.records.times.Tie as tie
+use Rattle.header.proofs.records.times.Reads as reads
+use Rattle.header.proofs.records.times.Lts as lts
+
+-- src/records.rt:30:9
+returns : tie.Need-returns
+returns c = ?
+
+-- src/records.rt:32:8
+div-if2 : tie.Need-div-if2
+div-if2 c = search needs
+
+-- src/records.rt:33:16
+add-result : tie.Need-add-result
+add-result c = search needs
+
+-- src/records.rt:33:9
+returns-2 : tie.Need-returns-2
+returns-2 c = ?
+
+-- src/records.rt:35:5
+mul-result : tie.Need-mul-result
+mul-result c = ?
+
+-- src/records.rt:26:1
+returns-3 : tie.Need-returns-3
+returns-3 c = ?
+
+pub times-spec : {M : Type 1} → statement M
+times-spec = tie.close (tie.spec returns div-if2 add-result returns-2 mul-result returns-3)

@@ -1,0 +1,89 @@
+-- Chunks and records (01, Records), as exact numbers.
+use Prim.Native.Nat.{ℕ, zero, suc, _+_, _-_, _*_, _^_, min}
+use mathlib.Core.Bool.{Bool, cond, _&&_}
+use mathlib.Core.List.{List}
+use lib.ListN.{getD}
+use lib.Dec.{ltb, leb, eqb}
+use Rattle.cdf.specs.Below.{allBelow}
+use Rattle.cdf.specs.Padding.{padding}
+use Rattle.cdf.specs.Types.{typeOf, sizeOf}
+use Rattle.header.specs.Tables.{noDim}
+use Rattle.header.specs.Model.{varAt, idAt}
+use Rattle.header.specs.declared.tables.Dim.{Dim}
+use Rattle.header.specs.declared.tables.Var.{Var}
+use Rattle.header.specs.declared.tables.Tables.{Tables}
+
+-- g 0 × g 1 × .. × g (n - 1), the empty product being 1
+unfoldable pub product : (ℕ → ℕ) → ℕ → ℕ
+product g zero = 1
+product g (suc n) = product g n * g n
+
+-- g 0 + g 1 + .. + g (n - 1)
+unfoldable pub total : (ℕ → ℕ) → ℕ → ℕ
+total g zero = 0
+total g (suc n) = total g n + g n
+
+-- the smallest of g i over the i below n of which p holds, and d
+unfoldable pub smallest : (ℕ → Bool) → (ℕ → ℕ) → ℕ → ℕ → ℕ
+smallest p g d zero = d
+smallest p g d (suc n) = cond (p n) (min (smallest p g d n) (g n)) (smallest p g d n)
+
+-- the length of the k-th dimension of a variable, among the dimensions ds
+abbrev pub lengthAt : List Dim → Var → ℕ → ℕ
+lengthAt ds v k = getD ds (idAt v k) noDim .length
+
+-- "A record variable has the unlimited dimension first."
+unfoldable pub isRecord : List Dim → Var → Bool
+isRecord ds v = ltb 0 (v .rank) && eqb (lengthAt ds v 0) 0
+
+-- how many dimensions of a variable are no part of its chunk: the unlimited one
+abbrev pub outer : List Dim → Var → ℕ
+outer ds v = cond (isRecord ds v) 1 0
+
+-- "Its chunk is the product of its other lengths (empty product 1); a fixed variable's chunk is the product of all."
+unfoldable pub chunk : List Dim → Var → ℕ
+chunk ds v = product (λ k. lengthAt ds v (outer ds v + k)) (v .rank - outer ds v)
+
+-- "Chunk bytes are chunk times type size"
+unfoldable pub chunkBytes : List Dim → Var → ℕ
+chunkBytes ds v = chunk ds v * sizeOf (typeOf (v .code))
+
+-- "padded bytes add the padding"
+unfoldable pub paddedBytes : List Dim → Var → ℕ
+paddedBytes ds v = chunkBytes ds v + padding (chunkBytes ds v)
+
+-- what a variable adds to a record
+abbrev pub recordPart : List Dim → Var → ℕ
+recordPart ds v = cond (isRecord ds v) (paddedBytes ds v) 0
+
+-- "Record size is the sum of the padded bytes of all record variables."
+unfoldable pub recordSize : Tables → ℕ
+recordSize t = total (λ i. recordPart (t .dims) (varAt t i)) (t .nvars)
+
+abbrev pub maxPosition : ℕ
+maxPosition = 2 ^ 62
+
+abbrev pub maxChunk : ℕ
+maxChunk = 2 ^ 60
+
+-- a number, or one above the limit of rule 12 in place of any above it
+abbrev pub capped : ℕ → ℕ
+capped n = cond (leb n maxChunk) n (maxChunk + 1)
+
+-- rule 12: no begin negative or above 2^62, no padded chunk nor the record size above 2^60. A begin is kept as 64 bits of two's complement, so that a negative one is above 2^62
+abbrev pub placed : Tables → ℕ → Bool
+placed t i = leb (varAt t i .begin) maxPosition && leb (paddedBytes (t .dims) (varAt t i)) maxChunk
+
+unfoldable pub sizesHold : Tables → Bool
+sizesHold t = allBelow (t .nvars) (placed t) && leb (recordSize t) maxChunk
+
+-- where the last chunk of a variable ends: "a fixed variable .. ends at begin + padded bytes; a record variable at begin if count is 0, else begin + (count − 1) × record size + padded bytes"
+abbrev pub lastEnd : Bool → ℕ → ℕ → ℕ → ℕ → ℕ
+lastEnd records begin padded step n = cond records (cond (eqb n 0) begin (begin + (n - 1) * step + padded)) (begin + padded)
+
+abbrev pub endOf : Tables → ℕ → Var → ℕ
+endOf t n v = lastEnd (isRecord (t .dims) v) (v .begin) (paddedBytes (t .dims) v) (recordSize t) n
+
+-- rule 15: no variable ends above 2^62
+unfoldable pub endsHold : Tables → ℕ → Bool
+endsHold t n = allBelow (t .nvars) (λ i. leb (endOf t n (varAt t i)) maxPosition)
