@@ -1,0 +1,30 @@
+"""Runs the oracle over lines, with 4 GiB of address space so that every machine gives the same answers."""
+
+import os
+import resource
+import subprocess
+
+HOME = os.path.join(os.path.dirname(os.path.abspath(__file__)), "..", "oracle")
+MEMORY = 4 << 30
+
+
+def build():
+    quiet = dict(os.environ, RUSTFLAGS="-Awarnings")
+    subprocess.run(["cargo", "build", "--release", "--quiet"], cwd=HOME, env=quiet, check=True)
+
+
+def limit():
+    resource.setrlimit(resource.RLIMIT_AS, (MEMORY, MEMORY))
+
+
+def ask(lines):
+    """One answer a line; 'abort' where the program ended on it, and on with the next."""
+    program = os.path.join(HOME, "target", "release", "oracle")
+    answers = []
+    while len(answers) < len(lines):
+        rest = "".join(line + "\n" for line in lines[len(answers) :])
+        run = subprocess.run([program], input=rest, stdout=subprocess.PIPE, stderr=subprocess.DEVNULL, text=True, preexec_fn=limit)
+        answers += run.stdout.splitlines()
+        if run.returncode:
+            answers.append("abort")
+    return answers
