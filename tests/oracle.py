@@ -6,6 +6,7 @@ import subprocess
 
 HOME = os.path.join(os.path.dirname(os.path.abspath(__file__)), "..", "oracle")
 MEMORY = 4 << 30
+BATCH = 500  # lines a run, so that an abort costs little
 
 
 def build():
@@ -22,7 +23,7 @@ def ask(lines):
     program = os.path.join(HOME, "target", "release", "oracle")
     answers = []
     while len(answers) < len(lines):
-        rest = "".join(line + "\n" for line in lines[len(answers) :])
+        rest = "".join(line + "\n" for line in lines[len(answers) :][:BATCH])
         run = subprocess.run([program], input=rest, stdout=subprocess.PIPE, stderr=subprocess.DEVNULL, text=True, preexec_fn=limit)
         answers += run.stdout.splitlines()
         if run.returncode:
