@@ -1,11 +1,10 @@
 """Runs the oracle over lines, with 4 GiB of address space so that every machine gives the same answers."""
 
 import os
-import resource
 import subprocess
 
 HOME = os.path.join(os.path.dirname(os.path.abspath(__file__)), "..", "oracle")
-MEMORY = 4 << 30
+PROGRAM = ["prlimit", "--as=%d" % (4 << 30), os.path.join(HOME, "target", "release", "oracle")]
 BATCH = 500  # lines a run, so that an abort costs little
 
 
@@ -14,17 +13,13 @@ def build():
     subprocess.run(["cargo", "build", "--release", "--quiet"], cwd=HOME, env=quiet, check=True)
 
 
-def limit():
-    resource.setrlimit(resource.RLIMIT_AS, (MEMORY, MEMORY))
-
-
 def ask(lines):
     """One answer a line; 'abort' where the program ended on it, and on with the next."""
-    program = os.path.join(HOME, "target", "release", "oracle")
+    plain = dict(os.environ, RUST_BACKTRACE="0")
     answers = []
     while len(answers) < len(lines):
-        rest = "".join(line + "\n" for line in lines[len(answers) :][:BATCH])
-        run = subprocess.run([program], input=rest, stdout=subprocess.PIPE, stderr=subprocess.DEVNULL, text=True, preexec_fn=limit)
+        rest = "".join(line + "\n" for line in lines[len(answers) : len(answers) + BATCH])
+        run = subprocess.run(PROGRAM, input=rest, stdout=subprocess.PIPE, stderr=subprocess.DEVNULL, text=True, env=plain)
         answers += run.stdout.splitlines()
         if run.returncode:
             answers.append("abort")
