@@ -1,0 +1,1 @@
+// Stand-in: the test module was not supplied.
