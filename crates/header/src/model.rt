@@ -3,8 +3,13 @@ ghost use mathlib.Core.Path.{_≡_};
 ghost use Prim.Native.Nat.{_≤_};
 ghost use Rattle.header.specs.Model.{namesHold, unlimited, oneUnlimited, idHolds, idsHold, modelHolds};
 ghost use Rattle.header.specs.Within.{Within};
-use crate::names::{attr_names_hold, dim_names_hold, var_names_hold};
-use crate::tables::{Attr, Dim, Tables, Var};
+use crate::names::attr_names_hold;
+use crate::names::dim_names_hold;
+use crate::names::var_names_hold;
+use crate::tables::Attr;
+use crate::tables::Dim;
+use crate::tables::Tables;
+use crate::tables::Var;
 
 fn names_hold(s: &[u8], t: Tables) -> bool
     requires { ⌜ Within t ⌝ }
@@ -67,6 +72,13 @@ fn one_unlimited(t: Tables) -> bool
     true
 }
 
+// An id as an index.
+fn index(id: u32) -> usize
+    ensures { λ r. ⌜ r ≡ id ⌝ }
+{
+    id as usize
+}
+
 // Whether every id names a dimension, and the unlimited dimension stands only first.
 fn ids_hold(t: Tables) -> bool
     requires { ⌜ Within t ⌝ }
@@ -77,7 +89,7 @@ fn ids_hold(t: Tables) -> bool
         let v = t.vars[i];
         let mut k = 0;
         while k < v.rank {
-            let id = v.ids[k] as usize;
+            let id = index(v.ids[k]);
             if t.ndims <= id {
                 return false;
             }
