@@ -14,7 +14,7 @@ returns c = (answer-long _ (omega arith), search needs)
 
 -- src/line.rt:53:9
 returns-2 : tie.Need-returns-2
-returns-2 c = (answer-odd _ (omega arith) (c .if2 .taken), search needs)
+returns-2 c = (answer-odd _ (omega arith) (λ e. omega arith), search needs)
 
 -- src/line.rt:56:8
 decode-requires : tie.Need-decode-requires
