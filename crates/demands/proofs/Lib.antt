@@ -1,0 +1,4 @@
+pub mod Determined
+pub mod Examples
+pub mod Versions
+pub mod RecordCount
