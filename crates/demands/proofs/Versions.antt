@@ -24,6 +24,7 @@ use Rattle.grammar.specs.declared.tables.Tables.{Tables}
 use Rattle.header.specs.Header.{answer, judged, readHeader}
 use Rattle.header.specs.Records.{maxPosition}
 use Rattle.header.proofs.Laws.Header.{read-stops}
+use Rattle.demands.proofs.Numbers.{Not4, gives, stops, bind-not4, test-not4, short, openCount-not4, lists-not4, judged-not4, answer-not4}
 use Rattle.demands.specs.Examples.{both}
 use Rattle.demands.specs.Versions.{only, Another, OneVersion}
 
@@ -40,6 +41,11 @@ admits-own : (v b : ℕ) → (v ≡ 1) ⊎ (v ≡ 2) → b ≡ v → admits (onl
 unfolding admits
 admits-own v b (inl e) f = rw (f, e)
 admits-own v b (inr e) f = rw (f, e)
+
+admits-yes : (v b : ℕ) → (v ≡ 1) ⊎ (v ≡ 2) → b ≡ v → admits (only v) b ≡ true
+unfolding admits
+admits-yes v b (inl e) f = rw (f, e)
+admits-yes v b (inr e) f = rw (f, e)
 
 admits-other : (v b : ℕ) → (v ≡ 1) ⊎ (v ≡ 2) → (b ≡ v → ⊥) → false ≡ admits (only v) b
 unfolding admits
@@ -104,9 +110,55 @@ module _ (v : ℕ) (one : (v ≡ 1) ⊎ (v ≡ 2)) (s : List ℕ) (size : ℕ) w
     unfolding header magic after-magic rest
     same-header = by-magic (begins cdf s 0) (leb 3 (length s)) refl
 
+    -- and then no step refuses by 4
+    rest-not4 : (w q : ℕ) → Not4 (rest w q)
+    unfolding rest
+    rest-not4 w q = bind-not4 _ _ (openCount-not4 s size _ q) (λ n r. lists-not4 s size (form w) _ r)
+
+    version-not4 : begins cdf s 0 ≡ true → Not4 (version (only v) s size 3)
+    unfolding version test
+    version-not4 b =
+        ⊎-elim
+        (λ (h : length s ≤ 3). rw (le-ltb 3 (length s) h) (short s size))
+        (λ (h : 3 < length s).
+        ⊎-elim
+        (λ (e : getD s 3 0 ≡ v). rw (lt-ltb 3 (length s) h, admits-yes v (getD s 3 0) one e) (gives _ _))
+        (λ (n : getD s 3 0 ≡ v → ⊥). absurd (same (record { begins = begun s (omega arith) b; four = h; other = n })))
+        (decide (getD s 3 0) v))
+        (order (length s) 3)
+
+    magic-not4 : (b c : Bool) → begins cdf s 0 ≡ b → Not4 (bind (test b (test c (got tt 3) (unfinished s size)) (stop 3 0)) (after-magic (only v)))
+    unfolding bind test unfinished after-magic
+    magic-not4 true true e = bind-not4 (version (only v) s size 3) rest (version-not4 e) rest-not4
+    magic-not4 true false e = short s size
+    magic-not4 false c e = stops 3 0 (λ z. omega arith)
+
+    header-not4 : Not4 (header (only v) s size)
+    unfolding header magic after-magic rest
+    header-not4 = magic-not4 (begins cdf s 0) (leb 3 (length s)) refl
+
+    read-not4 : readHeader s size (only v) .number ≡ 4 → ⊥
+    unfolding readHeader
+    read-not4 =
+        answer-not4 _ (test-not4 _ _ _ (bind-not4 _ _ header-not4 (judged-not4 s)) (stops 21 0 (λ z. omega arith)))
+
+  -- whether the fourth byte is another can be decided
+  another : Another s v ⊎ (Another s v → ⊥)
+  another = split (begins cdf s 0) refl
+    where
+      split : (b : Bool) → begins cdf s 0 ≡ b → Another s v ⊎ (Another s v → ⊥)
+      split false e = inr (λ a. let z : _≡_ {A = Bool} true false = sym (starts s (a .begins)) ∙ e in let w : _≡_ {A = ℕ} 0 1 = cc in omega arith)
+      split true e =
+          ⊎-elim
+          (λ (h : length s ≤ 3). inr (λ a. let l = a .four in omega arith))
+          (λ (h : 3 < length s).
+          ⊎-elim (λ (f : getD s 3 0 ≡ v). inr (λ a. a .other f)) (λ (n : getD s 3 0 ≡ v → ⊥). inl (record { begins = begun s (omega arith) e; four = h; other = n })) (decide (getD s 3 0) v))
+          (order (length s) 3)
+
 pub one-version : OneVersion
 unfolding OneVersion readHeader
 one-version v one s size inside small = (
   λ a. sym (read-stops s size (only v) inside small refl (refused v one s size a)),
+  λ h. ⊎-elim (λ (a : Another s v). a) (λ (n : Another s v → ⊥). absurd (read-not4 v one s size n h)) (another v one s size),
   λ n. ap (λ (m : Step Tables). answer (test (leb (length s) size && leb size maxPosition) (bind m (judged s)) (stop 21 0))) (same-header v one s size n),
 )

@@ -26,4 +26,6 @@ pub record Another (s : List ℕ) (v : ℕ) : Type 0 where
 unfoldable pub OneVersion : Type 0
 OneVersion =
     (v : ℕ) → (v ≡ 1) ⊎ (v ≡ 2) → (s : List ℕ) (size : ℕ) → length s ≤ size → size ≤ maxPosition
-    → (Another s v → readHeader s size (only v) ≡ refusal 4 3) × ((Another s v → ⊥) → readHeader s size (only v) ≡ readHeader s size both)
+    → (Another s v → readHeader s size (only v) ≡ refusal 4 3)
+    × (readHeader s size (only v) .number ≡ 4 → Another s v)
+    × ((Another s v → ⊥) → readHeader s size (only v) ≡ readHeader s size both)
