@@ -23,6 +23,7 @@ pub record Another (s : List ℕ) (v : ℕ) : Type 0 where
   pub four : 3 < length s
   pub other : getD s 3 0 ≡ v → ⊥
 
+-- demand 3's last sentence: by 4 at 3 exactly when the fourth byte is another, else as the full reader
 unfoldable pub OneVersion : Type 0
 OneVersion =
     (v : ℕ) → (v ≡ 1) ⊎ (v ≡ 2) → (s : List ℕ) (size : ℕ) → length s ≤ size → size ≤ maxPosition
