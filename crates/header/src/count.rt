@@ -57,7 +57,8 @@ fn divided(size: u64, first: u64, step: u64) -> Counted
     if rest % step != 0 {
         return Counted::Refused(13);
     }
-    Counted::Records(rest / step)
+    let records = rest / step;
+    Counted::Records(records)
 }
 
 // The record count of tables whose records have `step` bytes.
