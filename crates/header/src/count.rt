@@ -5,14 +5,14 @@ ghost use Prim.Native.Nat.{min, _≤_, _<_};
 ghost use Rattle.header.specs.Model.{idsHold};
 ghost use Rattle.header.specs.Records.{recordSize};
 ghost use Rattle.header.specs.Count.{ofCounted, firstBegin, divided, recordCount};
-ghost use Rattle.header.specs.Within.{Within};
+ghost use Rattle.grammar.specs.Within.{Within};
 use crate::model::unlimited;
 use crate::records::is_record;
-use crate::tables::Dim;
-use crate::tables::MAX_POSITION;
-use crate::tables::Tables;
-use crate::tables::Var;
 use cdf::word::INDETERMINATE;
+use grammar::tables::Dim;
+use grammar::tables::MAX_POSITION;
+use grammar::tables::Tables;
+use grammar::tables::Var;
 
 pub enum Counted {
     Records(u64),
@@ -57,7 +57,8 @@ fn divided(size: u64, first: u64, step: u64) -> Counted
     if rest % step != 0 {
         return Counted::Refused(13);
     }
-    Counted::Records(rest / step)
+    let records = rest / step;
+    Counted::Records(records)
 }
 
 // The record count of tables whose records have `step` bytes.

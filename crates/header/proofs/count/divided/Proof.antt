@@ -19,12 +19,12 @@ returns-2 : tie.Need-returns-2
 returns-2 c = divided-rest _ _ _ (c .before .if1 .left) (c .if2 .taken)
 
 -- src/count.rt:57:22
-div-t6 : tie.Need-div-t6
-div-t6 c = search needs
+div-records : tie.Need-div-records
+div-records c = search needs
 
 -- src/count.rt:46:1
 returns-3 : tie.Need-returns-3
 returns-3 c = divided-even _ _ _ (c .before .if1 .left) (c .if2 .left)
 
 pub divided-spec : {M : Type 1} → statement M
-divided-spec = tie.close (tie.spec returns rem-if2 returns-2 div-t6 returns-3)
+divided-spec = tie.close (tie.spec returns rem-if2 returns-2 div-records returns-3)
