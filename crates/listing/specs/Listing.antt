@@ -5,7 +5,7 @@ use mathlib.Core.List.{List, [], _∷_}
 use lib.ListN.{length}
 use Rattle.cdf.specs.declared.version.Admitted.{Admitted}
 use Rattle.header.specs.Header.{readHeader}
-use Rattle.header.specs.declared.tables.Header.{Header}
+use Rattle.header.specs.declared.reader.Header.{Header}
 use Rattle.hexlines.specs.Line.{Answer, long, hex, file}
 use Rattle.hexlines.specs.Text.{fields}
 

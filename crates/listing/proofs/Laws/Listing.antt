@@ -5,7 +5,7 @@ use mathlib.Core.List.{List, [], _∷_}
 use native.Mathlib.Omega.{arith}
 use lib.ListN.{length}
 use Rattle.header.specs.Header.{readHeader}
-use Rattle.header.specs.declared.tables.Header.{Header}
+use Rattle.header.specs.declared.reader.Header.{Header}
 use Rattle.hexlines.specs.Line.{Answer, long, hex, file}
 use Rattle.hexlines.specs.Text.{fields, Grown}
 use Rattle.listing.specs.Listing.{both, headerText, fileText, text}
