@@ -7,16 +7,27 @@ ghost use Rattle.header.specs.Dims.{ofListed};
 ghost use Rattle.header.specs.Grammar.{lists, header};
 ghost use Rattle.header.specs.Header.{refusal, answer, judged, readHeader};
 ghost use Rattle.header.specs.Within.{Within};
-use cdf::step::{Next, Word};
-use cdf::version::{parse_magic_word, parse_version, Admitted};
-use cdf::word::parse_open_count;
 use crate::attrs::parse_global_attrs_list;
-use crate::count::{record_count, Counted};
+use crate::count::Counted;
+use crate::count::record_count;
 use crate::dims::parse_dims_list;
 use crate::model::model_holds;
-use crate::records::{ends_hold, measure};
-use crate::tables::{blank, started, Header, Listed, Tables, MAX_POSITION};
-use crate::vars::{parse_vars_list, stopped};
+use crate::records::ends_hold;
+use crate::records::measure;
+use crate::tables::Header;
+use crate::tables::Listed;
+use crate::tables::MAX_POSITION;
+use crate::tables::Tables;
+use crate::tables::blank;
+use crate::tables::started;
+use crate::vars::parse_vars_list;
+use crate::vars::stopped;
+use cdf::step::Next;
+use cdf::step::Word;
+use cdf::version::Admitted;
+use cdf::version::parse_magic_word;
+use cdf::version::parse_version;
+use cdf::word::parse_open_count;
 
 // The three lists at `at`, into tables that have no rows.
 fn parse_lists(s: &[u8], size: u64, at: usize, version: u8, tables: Tables) -> Listed
