@@ -1,0 +1,2 @@
+// What another language calls: functions over numbers and slices, each for every input. A slice crosses as a pointer and a length.
+mod values; // values.rt: the decoders
