@@ -1,5 +1,43 @@
 // The decoders, for a caller that nothing checks: 0, or 22 (output too short or too long for the bytes) and nothing is written.
-use decode::chunk::{decode_f32, decode_f64, decode_i16, decode_i32, decode_i8, decode_u32, decode_u64, decode_u8};
+ghost use mathlib.Core.Path.{_≡_};
+ghost use mathlib.Core.Bool.{true};
+ghost use Prim.Native.Nat.{ℕ, _+_, _*_, _<_, _≤_};
+ghost use lib.Dec.{leb};
+use decode::chunk::decode_f32;
+use decode::chunk::decode_f64;
+use decode::chunk::decode_i8;
+use decode::chunk::decode_i16;
+use decode::chunk::decode_i32;
+use decode::chunk::decode_u8;
+use decode::chunk::decode_u32;
+use decode::chunk::decode_u64;
+use decode::strided::records_f32;
+
+// Whether a × b is at most n.
+fn product_within(a: usize, b: usize, n: usize) -> bool
+    ensures { λ r. ⌜ r ≡ leb (a * b) n ⌝ }
+{
+    if b == 0 {
+        return true;
+    }
+    a <= n / b
+}
+
+// Whether `count` chunks have room in `out` elements, and stand within `src` bytes if one starts `stride` bytes after the other.
+fn floats_within(src: usize, out: usize, count: usize, chunk: usize, stride: usize) -> bool
+    ensures { λ r. ⌜ (r ≡ true → (count * chunk ≤ out) × ((k : ℕ) → k < count → k * stride + 4 * chunk ≤ src)) ⌝ }
+{
+    if count == 0 {
+        return true;
+    }
+    if src / 4 < chunk {
+        return false;
+    }
+    if !product_within(count, chunk, out) {
+        return false;
+    }
+    product_within(count - 1, stride, src - 4 * chunk)
+}
 
 #[no_mangle]
 pub extern "C" fn fungal_decode_i8(src: &[u8], out: &mut [i8]) -> u8 {
@@ -70,5 +108,20 @@ pub extern "C" fn fungal_decode_u64(src: &[u8], out: &mut [u64]) -> u8 {
         return 22;
     }
     decode_u64(src, out);
+    0
+}
+
+#[no_mangle]
+pub extern "C" fn fungal_records_f32(
+    src: &[u8],
+    out: &mut [f32],
+    count: usize,
+    chunk: usize,
+    stride: usize,
+) -> u8 {
+    if !floats_within(src.len(), out.len(), count, chunk, stride) {
+        return 22;
+    }
+    records_f32(src, out, count, chunk, stride);
     0
 }

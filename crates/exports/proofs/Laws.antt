@@ -1,0 +1,2 @@
+-- Laws of the tests that stand before a decoder.
+pub mod Room
