@@ -2,3 +2,6 @@
 pub mod Tables
 pub mod Lists
 pub mod Model
+pub mod Records
+pub mod Count
+pub mod Header

@@ -1,15 +1,18 @@
 // The record count.
 ghost use mathlib.Core.Path.{_≡_};
 ghost use mathlib.Core.Bool.{true, cond};
-ghost use Prim.Native.Nat.{min, _≤_};
+ghost use Prim.Native.Nat.{min, _≤_, _<_};
 ghost use Rattle.header.specs.Model.{idsHold};
 ghost use Rattle.header.specs.Records.{recordSize};
 ghost use Rattle.header.specs.Count.{ofCounted, firstBegin, divided, recordCount};
 ghost use Rattle.header.specs.Within.{Within};
-use cdf::word::INDETERMINATE;
 use crate::model::unlimited;
 use crate::records::is_record;
-use crate::tables::{Dim, Tables, Var, MAX_POSITION};
+use crate::tables::Dim;
+use crate::tables::MAX_POSITION;
+use crate::tables::Tables;
+use crate::tables::Var;
+use cdf::word::INDETERMINATE;
 
 pub enum Counted {
     Records(u64),
@@ -42,24 +45,24 @@ fn first_begin(t: Tables) -> u64
     least
 }
 
-// The count of an open file: the records of `record` bytes from the first begin up to the size.
-fn divided(size: u64, first: u64, record: u64) -> Counted
-    requires { ⌜ 0 < record ⌝ }
-    ensures { λ r. ⌜ ofCounted r ≡ divided size first record ⌝ }
+// The count of an open file: the records of `step` bytes from the first begin up to the size.
+fn divided(size: u64, first: u64, step: u64) -> Counted
+    requires { ⌜ 0 < step ⌝ }
+    ensures { λ r. ⌜ ofCounted r ≡ divided size first step ⌝ }
 {
     if size < first {
         return Counted::Refused(14);
     }
     let rest = size - first;
-    if rest % record != 0 {
+    if rest % step != 0 {
         return Counted::Refused(13);
     }
-    Counted::Records(rest / record)
+    Counted::Records(rest / step)
 }
 
-// The record count of tables whose records have `record` bytes.
-pub fn record_count(t: Tables, record: u64) -> Counted
-    requires { ⌜ Within t × (idsHold t ≡ true) × (record ≡ recordSize t) ⌝ }
+// The record count of tables whose records have `step` bytes.
+pub fn record_count(t: Tables, step: u64) -> Counted
+    requires { ⌜ Within t × (idsHold t ≡ true) × (step ≡ recordSize t) ⌝ }
     ensures { λ r. ⌜ ofCounted r ≡ recordCount t ⌝ }
 {
     if t.ndims <= unlimited(t) {
@@ -69,9 +72,9 @@ pub fn record_count(t: Tables, record: u64) -> Counted
     if word != INDETERMINATE {
         return Counted::Records(word);
     }
-    if record == 0 {
+    if step == 0 {
         return Counted::Records(0);
     }
     let size = t.size;
-    divided(size, first_begin(t), record)
+    divided(size, first_begin(t), step)
 }

@@ -72,6 +72,13 @@ fn one_unlimited(t: Tables) -> bool
     true
 }
 
+// An id as an index.
+fn index(id: u32) -> usize
+    ensures { λ r. ⌜ r ≡ id ⌝ }
+{
+    id as usize
+}
+
 // Whether every id names a dimension, and the unlimited dimension stands only first.
 fn ids_hold(t: Tables) -> bool
     requires { ⌜ Within t ⌝ }
@@ -82,7 +89,7 @@ fn ids_hold(t: Tables) -> bool
         let v = t.vars[i];
         let mut k = 0;
         while k < v.rank {
-            let id = v.ids[k] as usize;
+            let id = index(v.ids[k]);
             if t.ndims <= id {
                 return false;
             }

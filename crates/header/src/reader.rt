@@ -93,11 +93,11 @@ fn judged(s: &[u8], t: Tables, end: usize) -> Header
     if !z.hold {
         return refused(12, 0);
     }
-    let record = z.record;
-    match record_count(t, record) {
+    let step = z.step;
+    match record_count(t, step) {
         Counted::Refused(k) => refused(k, 0),
         Counted::Records(n) => {
-            if !ends_hold(t, record, n) {
+            if !ends_hold(t, step, n) {
                 return refused(15, 0);
             }
             let mut tables = t;

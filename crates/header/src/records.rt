@@ -7,11 +7,14 @@ ghost use lib.Dec.{ltb, leb};
 ghost use Rattle.cdf.specs.Padding.{padding};
 ghost use Rattle.cdf.specs.Types.{typeOf, sizeOf};
 ghost use Rattle.header.specs.Model.{idAt, idsHold};
-ghost use Rattle.header.specs.Records.{isRecord, chunk, chunkBytes, recordSize, capped, maxChunk, maxPosition, lastEnd, sizesHold, endsHold};
+ghost use Rattle.header.specs.Records.{isRecord, outer, chunk, chunkBytes, recordSize, capped, maxChunk, maxPosition, lastEnd, sizesHold, endsHold};
 ghost use Rattle.header.specs.Within.{Within};
+use crate::tables::Dim;
+use crate::tables::MAX_POSITION;
+use crate::tables::Tables;
+use crate::tables::Var;
 use cdf::padding::compute_padding_size;
 use cdf::types::DataType;
-use crate::tables::{Dim, Tables, Var, MAX_POSITION};
 
 // The largest padded chunk and record size.
 pub const MAX_CHUNK: u64 = 0x1000_0000_0000_0000;
@@ -19,7 +22,7 @@ pub const MAX_CHUNK: u64 = 0x1000_0000_0000_0000;
 // The record size, where rule 12 holds.
 pub struct Sizes {
     pub hold: bool,
-    pub record: u64,
+    pub step: u64,
 }
 
 // The product of the number that `a` stands for and `b`.
@@ -48,15 +51,20 @@ pub fn is_record(dims: [Dim; 32], v: Var) -> bool
     d.length == 0
 }
 
+// How many dimensions are no part of the chunk.
+fn outer(dims: [Dim; 32], v: Var) -> usize
+    requires { ⌜ (v .rank ≤ 8) × ((k : ℕ) → k < v .rank → idAt v k < 32) ⌝ }
+    ensures { λ r. ⌜ r ≡ outer dims v ⌝ }
+{
+    if is_record(dims, v) { 1 } else { 0 }
+}
+
 // The number of elements of a chunk.
 pub fn chunk_len(dims: [Dim; 32], v: Var) -> u64
     requires { ⌜ (v .rank ≤ 8) × ((k : ℕ) → k < v .rank → idAt v k < 32) ⌝ }
     ensures { λ r. ⌜ r ≡ capped (chunk dims v) ⌝ }
 {
-    let mut k = 0;
-    if is_record(dims, v) {
-        k = 1;
-    }
+    let mut k = outer(dims, v);
     let mut product = 1;
     while k < v.rank {
         let id = v.ids[k] as usize;
@@ -79,7 +87,7 @@ pub fn chunk_bytes(dims: [Dim; 32], v: Var) -> u64
 // What a chunk of `bytes` bytes adds to a record.
 fn record_part(records: bool, bytes: u64) -> u64
     requires { ⌜ bytes ≤ maxChunk ⌝ }
-    ensures { λ r. ⌜ r ≡ cond records (bytes + padding bytes) 0 ⌝ }
+    ensures { λ r. ⌜ (r ≡ cond records (bytes + padding bytes) 0) × (r ≤ maxChunk) ⌝ }
 {
     if records {
         return bytes + compute_padding_size(bytes);
@@ -90,14 +98,14 @@ fn record_part(records: bool, bytes: u64) -> u64
 // Rule 12, and the record size.
 pub fn measure(t: Tables) -> Sizes
     requires { ⌜ Within t × (idsHold t ≡ true) ⌝ }
-    ensures { λ r. ⌜ (r .hold ≡ sizesHold t) × (r .hold ≡ true → r .record ≡ recordSize t) ⌝ }
+    ensures { λ r. ⌜ (r .hold ≡ sizesHold t) × (r .hold ≡ true → r .step ≡ recordSize t) ⌝ }
 {
     let broken = Sizes {
         hold: false,
-        record: 0,
+        step: 0,
     };
     let dims = t.dims;
-    let mut record = 0;
+    let mut step = 0;
     let mut i = 0;
     while i < t.nvars {
         let v = t.vars[i];
@@ -108,29 +116,29 @@ pub fn measure(t: Tables) -> Sizes
         if MAX_CHUNK < bytes {
             return broken;
         }
-        record += record_part(is_record(dims, v), bytes);
-        if MAX_CHUNK < record {
+        step += record_part(is_record(dims, v), bytes);
+        if MAX_CHUNK < step {
             return broken;
         }
         i += 1;
     }
-    Sizes { hold: true, record }
+    Sizes { hold: true, step }
 }
 
-// Whether `steps` records of `record` bytes reach past the largest position.
-fn passes(steps: u64, record: u64) -> bool
-    ensures { λ r. ⌜ r ≡ ltb maxPosition (steps * record) ⌝ }
+// Whether `steps` records of `step` bytes reach past the largest position.
+fn passes(steps: u64, step: u64) -> bool
+    ensures { λ r. ⌜ r ≡ ltb maxPosition (steps * step) ⌝ }
 {
-    if record == 0 {
+    if step == 0 {
         return false;
     }
-    MAX_POSITION / record < steps
+    MAX_POSITION / step < steps
 }
 
 // Whether the last of `n` chunks ends inside; a fixed variable has one.
-fn end_holds(records: bool, begin: u64, padded: u64, record: u64, n: u64) -> bool
+fn end_holds(records: bool, begin: u64, padded: u64, step: u64, n: u64) -> bool
     requires { ⌜ (begin ≤ maxPosition) × (padded ≤ maxChunk) ⌝ }
-    ensures { λ r. ⌜ r ≡ leb (lastEnd records begin padded record n) maxPosition ⌝ }
+    ensures { λ r. ⌜ r ≡ leb (lastEnd records begin padded step n) maxPosition ⌝ }
 {
     if !records {
         return begin + padded <= MAX_POSITION;
@@ -139,15 +147,15 @@ fn end_holds(records: bool, begin: u64, padded: u64, record: u64, n: u64) -> boo
         return true;
     }
     let steps = n - 1;
-    if passes(steps, record) {
+    if passes(steps, step) {
         return false;
     }
-    begin + steps * record + padded <= MAX_POSITION
+    begin + steps * step + padded <= MAX_POSITION
 }
 
-// Rule 15, where rule 12 holds, for `n` records of `record` bytes.
-pub fn ends_hold(t: Tables, record: u64, n: u64) -> bool
-    requires { ⌜ Within t × (idsHold t ≡ true) × (sizesHold t ≡ true) × (record ≡ recordSize t) ⌝ }
+// Rule 15, where rule 12 holds, for `n` records of `step` bytes.
+pub fn ends_hold(t: Tables, step: u64, n: u64) -> bool
+    requires { ⌜ Within t × (idsHold t ≡ true) × (sizesHold t ≡ true) × (step ≡ recordSize t) ⌝ }
     ensures { λ r. ⌜ r ≡ endsHold t n ⌝ }
 {
     let dims = t.dims;
@@ -156,7 +164,7 @@ pub fn ends_hold(t: Tables, record: u64, n: u64) -> bool
         let v = t.vars[i];
         let bytes = chunk_bytes(dims, v);
         let padded = bytes + compute_padding_size(bytes);
-        if !end_holds(is_record(dims, v), v.begin, padded, record, n) {
+        if !end_holds(is_record(dims, v), v.begin, padded, step, n) {
             return false;
         }
         i += 1;

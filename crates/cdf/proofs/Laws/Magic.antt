@@ -9,7 +9,7 @@ use native.Mathlib.Decide.{decLt}
 use lib.ListN.{length, getD}
 use lib.Dec.{ltb, leb, eqb}
 use borrow.Author.Tests.{lt-ltb, le-ltb, lt-leb, le-leb, leb-true, ltb-true, eq-eqb, ne-eqb, eqb-true}
-use Rattle.cdf.specs.Step.{Step, got, stop}
+use Rattle.cdf.specs.Step.{Step, got, stop, test, unfinished}
 use Rattle.cdf.specs.Below.{allBelow}
 use Rattle.cdf.specs.Magic.{begins, cdf, magic, admits, version}
 use Rattle.cdf.specs.declared.version.Admitted.{Admitted}
@@ -97,6 +97,16 @@ module _ (a : Admitted) where
     pub version-bad : {v : ℕ} → at < length s → v ≡ getD s at 0 → false ≡ admits a v → stop 4 at ≡ version a s size at
     unfolding version
     version-bad h e b = by-true _ (lt-ltb at (length s) h) (by-false _ (ap (admits a) (sym e) ∙ sym b) refl)
+
+    -- a version that is taken is the byte
+    pub version-is : {v n : ℕ} → got v n ≡ version a s size at → v ≡ getD s at 0
+    unfolding version test unfinished
+    version-is {v} {n} e = taken (ltb at (length s)) (admits a (getD s at 0)) e
+      where
+        taken : (t u : Bool) → got v n ≡ test t (test u (got (getD s at 0) (at + 1)) (stop 4 at)) (unfinished s size) → v ≡ getD s at 0
+        taken true true f = cc
+        taken true false f = cc
+        taken false u f = cc
 
     pub version-ends : Ends (length s) (version a s size at)
     unfolding version

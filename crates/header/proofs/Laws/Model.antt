@@ -8,8 +8,8 @@ use lib.ListN.{getD}
 use lib.Dec.{ltb, eqb}
 use borrow.Author.Tests.{lt-ltb, le-ltb, eq-eqb, ne-eqb}
 use Rattle.cdf.specs.Below.{allBelow, firstBelow}
-use Rattle.cdf.proofs.Laws.Below.{all-hold, one-fails, first-none, first-is}
-use Rattle.header.specs.Model.{Span, sameName, isNew, distinct, dimNames, varNames, attrNames, namesHold, dimAt, varAt, idAt, unlimited, oneUnlimited, idHolds, idsHold}
+use Rattle.cdf.proofs.Laws.Below.{both, all-hold, one-fails, first-none, first-is}
+use Rattle.header.specs.Model.{Span, sameName, isNew, distinct, dimNames, varNames, attrNames, namesHold, dimAt, varAt, idAt, unlimited, oneUnlimited, idHolds, idsHold, modelHolds}
 use Rattle.header.specs.declared.tables.Var.{Var}
 use Rattle.header.specs.declared.tables.Tables.{Tables}
 
@@ -98,3 +98,53 @@ module _ (s : List ℕ) (t : Tables) where
       pub names-all : ((i : ℕ) → i < t .nvars → Own i ≡ true) → true ≡ namesHold s t
       unfolding namesHold
       names-all h = rw (dims, vars, globals) (sym (all-hold Own (t .nvars) h))
+
+-- ids: one that holds, one too large, the unlimited dimension not first
+module _ (t : Tables) (v : Var) (k : ℕ) where
+  pub id-first : idAt v k < t .ndims → k ≡ 0 → idHolds t v k ≡ true
+  unfolding idHolds
+  id-first h e = rw (lt-ltb (idAt v k) (t .ndims) h, eq-eqb k 0 e)
+
+  pub id-fixed : idAt v k < t .ndims → (dimAt t (idAt v k) .length ≡ 0 → ⊥) → idHolds t v k ≡ true
+  unfolding idHolds
+  id-fixed h n = rw (lt-ltb (idAt v k) (t .ndims) h, ne-eqb (dimAt t (idAt v k) .length) 0 n) (or-true (eqb k 0))
+
+  pub id-large : t .ndims ≤ idAt v k → idHolds t v k ≡ false
+  unfolding idHolds
+  id-large h = rw (le-ltb (idAt v k) (t .ndims) h)
+
+  pub id-later : idAt v k < t .ndims → 0 < k → dimAt t (idAt v k) .length ≡ 0 → idHolds t v k ≡ false
+  unfolding idHolds
+  id-later h p e = rw (lt-ltb (idAt v k) (t .ndims) h, ne-eqb k 0 (λ q. omega arith), eq-eqb (dimAt t (idAt v k) .length) 0 e)
+
+module _ (t : Tables) where
+  pub row-ids : (i : ℕ) → ((k : ℕ) → k < varAt t i .rank → idHolds t (varAt t i) k ≡ true) → allBelow (varAt t i .rank) (idHolds t (varAt t i)) ≡ true
+  row-ids i h = all-hold _ _ h
+
+  pub ids-all : ((i : ℕ) → i < t .nvars → allBelow (varAt t i .rank) (idHolds t (varAt t i)) ≡ true) → true ≡ idsHold t
+  unfolding idsHold
+  ids-all h = sym (all-hold _ (t .nvars) h)
+
+  pub ids-not : (i k : ℕ) → i < t .nvars → k < varAt t i .rank → idHolds t (varAt t i) k ≡ false → false ≡ idsHold t
+  unfolding idsHold
+  ids-not i k l m e = sym (one-fails _ (t .nvars) i l (one-fails (idHolds t (varAt t i)) (varAt t i .rank) k m e))
+
+-- rule 11 by its parts
+module _ (s : List ℕ) (t : Tables) where
+  pub model-names : namesHold s t ≡ false → false ≡ modelHolds s t
+  unfolding modelHolds
+  model-names e = rw e
+
+  module _ (names : namesHold s t ≡ true) where
+    pub model-unlimited : oneUnlimited t ≡ false → false ≡ modelHolds s t
+    unfolding modelHolds
+    model-unlimited e = rw (names, e)
+
+    pub model-ids : {b : Bool} → oneUnlimited t ≡ true → b ≡ idsHold t → b ≡ modelHolds s t
+    unfolding modelHolds
+    model-ids e f = rw (names, e) f
+
+  -- where the model holds, the ids do
+  pub model-has-ids : modelHolds s t ≡ true → idsHold t ≡ true
+  unfolding modelHolds
+  model-has-ids e = both (oneUnlimited t) (idsHold t) (both (namesHold s t) (oneUnlimited t && idsHold t) e .1) .1

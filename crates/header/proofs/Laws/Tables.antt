@@ -2,13 +2,13 @@
 use Prim.Native.Nat.{ℕ, _+_, _≤_, _<_}
 use native.Mathlib.Omega.{arith}
 use native.Mathlib.Nat.{not-suc-le-zero}
-use mathlib.Core.Path.{_≡_, refl, subst, sym, _∙_}
+use mathlib.Core.Path.{_≡_, refl, ap, subst, sym, _∙_}
 use mathlib.Core.Logic.{⊎-elim}
 use mathlib.Core.List.{List}
 use lib.ListN.{length, getD, set, length-set}
 use lib.Seq.{getD-set-same, getD-set-other}
 use Rattle.cdf.proofs.Laws.Below.{order}
-use Rattle.header.specs.Tables.{noVar, started, addDim, addAttr, addVar, closeGlobals}
+use Rattle.header.specs.Tables.{noVar, started, blank, addDim, addAttr, addVar, closeGlobals}
 use Rattle.header.specs.Within.{Within, RowWithin}
 use Rattle.header.specs.declared.tables.Dim.{Dim}
 use Rattle.header.specs.declared.tables.Attr.{Attr}
@@ -42,3 +42,13 @@ module _ (t : Tables) (k : Within t) where
   within-var v h r =
       let l = k .long in
       record { dims = k .dims; attrs = k .attrs; globals = k .globals; vars = omega arith; long = length-set (t .vars) (t .nvars) v ∙ l; rows = rows-more RowWithin (t .vars) (t .nvars) v noVar (omega arith) (k .rows) r }
+
+-- tables just started have no rows
+pub started-empty : {t : Tables} (v w z : ℕ) → t ≡ started v w z → (t .ndims ≡ 0) × (t .nvars ≡ 0) × Within t
+unfolding started
+started-empty v w z e =
+    (ap (λ (t : Tables). t .ndims) e, ap (λ (t : Tables). t .nvars) e, subst (λ (t : Tables). Within t) (sym e) (within-started v w z))
+
+pub within-blank : {t : Tables} → t ≡ blank → Within t
+unfolding blank
+within-blank e = started-empty 1 0 0 e .2

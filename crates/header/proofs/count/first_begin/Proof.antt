@@ -1,3 +1,12 @@
+use Rattle.header.specs.Records.{isRecord}
+use borrow.Author.Needs.{needs}
+use Rattle.header.proofs.Laws.Count as laws
+use Rattle.header.proofs.Laws.Records.{ids-below}
+use Rattle.header.specs.Model.{varAt}
+use mathlib.Core.Bool.{Bool, cond}
+use mathlib.Core.Path.{_≡_, refl, sym, ap, _∙_}
+use native.Mathlib.Omega.{arith}
+use Prim.Native.Nat.{ℕ, _-_, _≤_, _<_, min}
 use Rattle.header.proofs.count.first_begin.Statement.{statement}
 use Rattle.header.proofs.count.first_begin.Tie as tie
 use Rattle.header.proofs.count.first_begin.Reads as reads
@@ -6,46 +15,54 @@ use Rattle.header.proofs.count.nearer.Reads as nearer-reads
 use Rattle.header.proofs.records.is_record.Reads as is-record-reads
 
 abbrev Inv-loop : tie.InvT-loop
-Inv-loop t dims least₀ i₀ least i = ?
+Inv-loop t dims least₀ i₀ least i = (i ≤ t .nvars) × (least ≡ laws.least t i)
 
 abbrev μ-loop : tie.MeasureT-loop
-μ-loop t dims least₀ i₀ least i = ?
+μ-loop t dims least₀ i₀ least i = t .nvars - i
 
 -- src/count.rt:37:5
 loop-holds : tie.Need-loop-holds Inv-loop μ-loop
-loop-holds c = ?
+loop-holds c = (omega arith, laws.least-none _)
 
 -- src/count.rt:38:17
 mul-v : tie.Need-mul-v Inv-loop μ-loop
-mul-v c = ?
+mul-v c = search needs
 
 -- src/count.rt:38:17
 element-copy-out-v : tie.Need-element-copy-out-v Inv-loop μ-loop
-element-copy-out-v c = ?
+element-copy-out-v c = search needs
 
 -- src/count.rt:39:24
 is-record-requires : tie.Need-is-record-requires Inv-loop μ-loop
-is-record-requires c κs = ?
+is-record-requires c κs = let p = c .before .before .before .before .pre in let r = p .0 .rows _ (c .before .loop-test .taken) in (r .rank, ids-below _ (p .1) _ (c .before .loop-test .taken) (p .0 .dims))
 
 -- src/count.rt:39:9
 nearer-requires : tie.Need-nearer-requires Inv-loop μ-loop
-nearer-requires c κs = ?
+nearer-requires c κs = search needs
 
 -- src/count.rt:40:9
 add-i : tie.Need-add-i Inv-loop μ-loop
-add-i c = ?
+add-i c = search needs
 
 -- src/count.rt:37:5
 loop-less : tie.Need-loop-less Inv-loop μ-loop
-loop-less c = ?
+loop-less c = search needs
 
 -- src/count.rt:37:5
 loop-again : tie.Need-loop-again Inv-loop μ-loop
-loop-again c = ?
+loop-again c =
+    let t = c .before .before .before .before .before .before .args .t1 in
+    let l = c .before .before .before .before .loop in (
+      omega arith,
+      c .nearer .ensures
+          ∙ ap (λ (b : Bool). cond b (min (l .least) (varAt t (l .i) .begin)) (l .least)) (c .before .is-record .ensures)
+          ∙ ap (λ (n : ℕ). cond (isRecord (t .dims) (varAt t (l .i))) (min n (varAt t (l .i) .begin)) n) (l .inv .1)
+          ∙ laws.least-more t (l .i),
+    )
 
 -- src/count.rt:30:1
 returns : tie.Need-returns Inv-loop μ-loop
-returns c = ?
+returns c = let l = c .before .loop in let t = c .before .before .before .args .t1 in let e : l .i ≡ t .nvars = omega arith in l .inv .1 ∙ ap (laws.least t) e ∙ laws.least-all t
 
 pub first-begin-spec : {M : Type 1} → statement M
 first-begin-spec =

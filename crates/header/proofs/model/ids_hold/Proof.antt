@@ -1,91 +1,114 @@
+use borrow.Author.Needs.{needs}
+use Rattle.header.proofs.Laws.Model.{id-first, id-fixed, id-large, id-later, row-ids, ids-all, ids-not}
+use Rattle.header.specs.Model.{dimAt, varAt, idHolds}
+use Rattle.cdf.specs.Below.{allBelow}
+use borrow.Author.Count.{below-none, below-more}
+use mathlib.Core.Logic.{⊎-elim}
+use mathlib.Core.Bool.{true}
+use mathlib.Core.Path.{_≡_, refl, sym, ap, _∙_}
+use native.Mathlib.Omega.{arith}
+use Prim.Native.Nat.{ℕ, _-_, _≤_, _<_}
 use Rattle.header.proofs.model.ids_hold.Statement.{statement}
 use Rattle.header.proofs.model.ids_hold.Tie as tie
 use Rattle.header.proofs.model.ids_hold.Reads as reads
 use Rattle.header.proofs.model.ids_hold.Lts as lts
+use Rattle.header.proofs.model.index.Reads as index-reads
 
 abbrev Inv-loop2 : tie.InvT-loop2
-Inv-loop2 t i v k₀ k = ?
+Inv-loop2 t i v k₀ k = (k ≤ v .rank) × (v .rank ≤ 8) × ((j : ℕ) → j < k → idHolds t v j ≡ true)
 
 abbrev μ-loop2 : tie.MeasureT-loop2
-μ-loop2 t i v k₀ k = ?
+μ-loop2 t i v k₀ k = v .rank - k
 
 abbrev Inv-loop : tie.InvT-loop
-Inv-loop t i₀ i = ?
+Inv-loop t i₀ i = (i ≤ t .nvars) × ((j : ℕ) → j < i → allBelow (varAt t j .rank) (idHolds t (varAt t j)) ≡ true)
 
 abbrev μ-loop : tie.MeasureT-loop
-μ-loop t i₀ i = ?
+μ-loop t i₀ i = t .nvars - i
 
--- src/model.rt:76:5
+-- src/model.rt:83:5
 loop-holds : tie.Need-loop-holds Inv-loop2 μ-loop2 Inv-loop μ-loop
-loop-holds c = ?
+loop-holds c = (omega arith, below-none _)
 
--- src/model.rt:77:17
+-- src/model.rt:84:17
 mul-v : tie.Need-mul-v Inv-loop2 μ-loop2 Inv-loop μ-loop
-mul-v c = ?
+mul-v c = search needs
 
--- src/model.rt:77:17
+-- src/model.rt:84:17
 element-copy-out-v : tie.Need-element-copy-out-v Inv-loop2 μ-loop2 Inv-loop μ-loop
-element-copy-out-v c = ?
+element-copy-out-v c = search needs
 
--- src/model.rt:79:9
+-- src/model.rt:86:9
 loop2-holds : tie.Need-loop2-holds Inv-loop2 μ-loop2 Inv-loop μ-loop
-loop2-holds c = ?
+loop2-holds c = (omega arith, c .before .before .before .pre .rows _ (c .before .loop-test .taken) .rank, below-none _)
 
--- src/model.rt:80:22
-mul-id : tie.Need-mul-id Inv-loop2 μ-loop2 Inv-loop μ-loop
-mul-id c = ?
+-- src/model.rt:87:28
+mul-index : tie.Need-mul-index Inv-loop2 μ-loop2 Inv-loop μ-loop
+mul-index c = search needs
 
--- src/model.rt:80:22
-element-copy-out-id : tie.Need-element-copy-out-id Inv-loop2 μ-loop2 Inv-loop μ-loop
-element-copy-out-id c = ?
+-- src/model.rt:87:28
+element-copy-out-index : tie.Need-element-copy-out-index Inv-loop2 μ-loop2 Inv-loop μ-loop
+element-copy-out-index c = search needs
 
--- src/model.rt:80:22
-cast-id : tie.Need-cast-id Inv-loop2 μ-loop2 Inv-loop μ-loop
-cast-id c = ?
+-- src/model.rt:87:17
+index-requires : tie.Need-index-requires Inv-loop2 μ-loop2 Inv-loop μ-loop
+index-requires c κs = search needs
 
--- src/model.rt:82:17
+-- src/model.rt:89:17
 returns : tie.Need-returns Inv-loop2 μ-loop2 Inv-loop μ-loop
-returns c = ?
+returns c = ids-not _ _ _ (c .before .before .before .before .before .before .loop-test .taken) (c .before .before .before .loop2-test .taken) (id-large _ _ _ (omega (arith, c .before .index .ensures)))
 
--- src/model.rt:84:21
+-- src/model.rt:91:21
 mul-d : tie.Need-mul-d Inv-loop2 μ-loop2 Inv-loop μ-loop
-mul-d c = ?
+mul-d c = search needs
 
--- src/model.rt:84:21
+-- src/model.rt:91:21
 element-copy-out-d : tie.Need-element-copy-out-d Inv-loop2 μ-loop2 Inv-loop μ-loop
-element-copy-out-d c = ?
+element-copy-out-d c = search needs
 
--- src/model.rt:87:21
+-- src/model.rt:94:21
 returns-2 : tie.Need-returns-2 Inv-loop2 μ-loop2 Inv-loop μ-loop
-returns-2 c = ?
+returns-2 c = let t = c .before .before .before .before .before .before .before .before .before .before .before .before .args .t1 in ids-not _ _ _ (c .before .before .before .before .before .before .before .before .before .before .loop-test .taken) (c .before .before .before .before .before .before .before .loop2-test .taken) (id-later _ _ _ (omega (arith, c .before .before .before .before .before .index .ensures)) (c .before .before .if2 .taken) (ap (λ (n : ℕ). dimAt t n .length) (sym (c .before .before .before .before .before .index .ensures)) ∙ c .if3 .taken))
 
--- src/model.rt:90:13
+-- src/model.rt:97:13
 add-k : tie.Need-add-k Inv-loop2 μ-loop2 Inv-loop μ-loop
-add-k c = ?
+add-k c = search needs
 
--- src/model.rt:79:9
+-- src/model.rt:86:9
 loop2-less : tie.Need-loop2-less Inv-loop2 μ-loop2 Inv-loop μ-loop
-loop2-less c = ?
+loop2-less c = search needs
 
--- src/model.rt:79:9
+-- src/model.rt:86:9
 loop2-again : tie.Need-loop2-again Inv-loop2 μ-loop2 Inv-loop μ-loop
-loop2-again c = ?
+loop2-again c =
+    let t = c .before .before .before .before .before .before .before .before .before .before .args .t1 in
+    let l = c .before .before .before .before .before .before .loop2 in
+    let v = varAt t (c .before .before .before .before .before .before .before .before .before .loop .i) in
+    let e = c .before .before .before .index .ensures in (
+      omega arith,
+      l .inv .1,
+      below-more _ _ (l .inv .2)
+          (⊎-elim
+          (λ w. id-fixed t v (l .k) (omega (arith, e)) (λ z. w .2 .left (ap (λ (n : ℕ). dimAt t n .length) e ∙ z)))
+          (λ w. id-first t v (l .k) (omega (arith, e)) (omega arith))
+          (c .if2 .came)),
+    )
 
--- src/model.rt:92:9
+-- src/model.rt:99:9
 add-i : tie.Need-add-i Inv-loop2 μ-loop2 Inv-loop μ-loop
-add-i c = ?
+add-i c = search needs
 
--- src/model.rt:76:5
+-- src/model.rt:83:5
 loop-less : tie.Need-loop-less Inv-loop2 μ-loop2 Inv-loop μ-loop
-loop-less c = ?
+loop-less c = search needs
 
--- src/model.rt:76:5
+-- src/model.rt:83:5
 loop-again : tie.Need-loop-again Inv-loop2 μ-loop2 Inv-loop μ-loop
-loop-again c = ?
+loop-again c = (omega arith, below-more _ _ (c .before .before .before .before .loop .inv .1) (row-ids _ _ (λ j l. c .before .loop2 .inv .2 j (omega arith))))
 
--- src/model.rt:71:1
+-- src/model.rt:78:1
 returns-3 : tie.Need-returns-3 Inv-loop2 μ-loop2 Inv-loop μ-loop
-returns-3 c = ?
+returns-3 c = ids-all _ (λ j l. c .before .loop .inv .1 j (omega arith))
 
 pub ids-hold-spec : {M : Type 1} → statement M
 ids-hold-spec =
@@ -99,9 +122,9 @@ ids-hold-spec =
     mul-v
     element-copy-out-v
     loop2-holds
-    mul-id
-    element-copy-out-id
-    cast-id
+    mul-index
+    element-copy-out-index
+    index-requires
     returns
     mul-d
     element-copy-out-d

@@ -1,3 +1,5 @@
+use Rattle.header.specs.Header.{refusal}
+use mathlib.Core.Path.{ap}
 use borrow.Author.Needs.{needs}
 use Rattle.header.proofs.reader.refused.Statement.{statement}
 use Rattle.header.proofs.reader.refused.Tie as tie
@@ -11,7 +13,8 @@ blank-requires c κs = search needs
 
 -- src/reader.rt:62:1
 returns : tie.Need-returns
-returns c = ?
+unfolding refusal
+returns c = rw (c .blank .ensures)
 
 pub refused-spec : {M : Type 1} → statement M
 refused-spec = tie.close (tie.spec blank-requires returns)

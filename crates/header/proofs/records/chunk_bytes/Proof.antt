@@ -1,3 +1,7 @@
+use Rattle.header.proofs.Laws.Records.{bytes-are}
+use Rattle.cdf.specs.Types.{sizeOf}
+use Rattle.header.specs.Records.{chunk}
+use mathlib.Core.Path.{sym, ap, _∙_}
 use borrow.Author.Needs.{needs}
 use Rattle.header.proofs.records.chunk_bytes.Statement.{statement}
 use Rattle.header.proofs.records.chunk_bytes.Tie as tie
@@ -30,7 +34,7 @@ times-requires c κs = search needs
 
 -- src/records.rt:71:1
 returns : tie.Need-returns
-returns c = ?
+returns c = c .times .ensures (chunk (c .before .before .before .before .before .args .dims) (c .before .before .before .before .before .args .v)) (c .before .before .chunk-len .ensures) ∙ bytes-are _ _ _ (c .before .size-of .ensures ∙ ap sizeOf (c .before .before .before .of-code .ensures))
 
 pub chunk-bytes-spec : {M : Type 1} → statement M
 chunk-bytes-spec =

@@ -1,3 +1,9 @@
+use Rattle.header.proofs.Laws.Records.{padded-in}
+use Rattle.cdf.specs.Padding.{padding}
+use native.Mathlib.Omega.{arith}
+use Prim.Native.Nat.{ℕ, _+_}
+use mathlib.Core.Path.{sym, ap, _∙_}
+use mathlib.Core.Bool.{cond, Bool}
 use borrow.Author.Needs.{needs}
 use Rattle.header.proofs.records.record_part.Statement.{statement}
 use Rattle.header.proofs.records.record_part.Tie as tie
@@ -15,7 +21,7 @@ add-result c = search needs
 
 -- src/records.rt:85:9
 returns : tie.Need-returns
-returns c = ?
+returns c = let b = c .before .before .args .bytes in (rw (c .before .if1 .taken) (ap (λ (p : ℕ). b + p) (c .compute-padding-size .ensures)), omega (arith, padded-in b (c .before .before .pre), c .compute-padding-size .ensures))
 
 -- src/records.rt:80:1
 returns-2 : tie.Need-returns-2

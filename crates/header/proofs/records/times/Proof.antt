@@ -1,3 +1,6 @@
+use Prim.Native.Nat.{_<_}
+use Rattle.header.proofs.Laws.Records.{times-zero, times-over, times-in, times-fits}
+use native.Mathlib.Omega.{arith}
 use borrow.Author.Needs.{needs}
 use Rattle.header.proofs.records.times.Statement.{statement}
 use Rattle.header.proofs.records.times.Tie as tie
@@ -6,7 +9,7 @@ use Rattle.header.proofs.records.times.Lts as lts
 
 -- src/records.rt:30:9
 returns : tie.Need-returns
-returns c = ?
+returns c = λ x e. times-zero _ x e (c .if1 .taken)
 
 -- src/records.rt:32:8
 div-if2 : tie.Need-div-if2
@@ -18,15 +21,15 @@ add-result c = search needs
 
 -- src/records.rt:33:9
 returns-2 : tie.Need-returns-2
-returns-2 c = ?
+returns-2 c = λ x e. times-over _ x e (omega arith) (c .if2 .taken)
 
 -- src/records.rt:35:5
 mul-result : tie.Need-mul-result
-mul-result c = ?
+mul-result c = omega (arith, times-fits (c .before .before .args .a) (c .before .before .args .b) (omega arith) (c .if2 .left))
 
 -- src/records.rt:26:1
 returns-3 : tie.Need-returns-3
-returns-3 c = ?
+returns-3 c = λ x e. times-in _ x e (omega arith) (c .if2 .left)
 
 pub times-spec : {M : Type 1} → statement M
 times-spec = tie.close (tie.spec returns div-if2 add-result returns-2 mul-result returns-3)
