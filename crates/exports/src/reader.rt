@@ -1,0 +1,27 @@
+// The header reader, for a caller that nothing checks. The tables cross as numbers.
+use cdf::version::Admitted;
+use header::reader::read_header;
+
+// The answer number; to `numbers` go place, header's end, record count, version, and the numbers of dimensions, of attributes, of
+// global ones among them, and of variables. Fewer than eight places: 22, and nothing is written.
+#[no_mangle]
+pub extern "C" fn fungal_read_header(prefix: &[u8], size: u64, numbers: &mut [u64]) -> u8 {
+    if numbers.len() < 8 {
+        return 22;
+    }
+    let both = Admitted {
+        classic: true,
+        offset64: true,
+    };
+    let h = read_header(prefix, size, both);
+    let t = h.tables;
+    numbers[0] = h.place as u64;
+    numbers[1] = h.end as u64;
+    numbers[2] = t.count;
+    numbers[3] = t.version as u64;
+    numbers[4] = t.ndims as u64;
+    numbers[5] = t.nattrs as u64;
+    numbers[6] = t.globals as u64;
+    numbers[7] = t.nvars as u64;
+    h.number
+}
