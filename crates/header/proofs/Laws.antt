@@ -1,6 +1,4 @@
 -- The laws of the definitions in specs/, under the same file names.
-pub mod Tables
-pub mod Lists
 pub mod Model
 pub mod Records
 pub mod Count

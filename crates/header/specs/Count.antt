@@ -5,9 +5,10 @@ use lib.Dec.{ltb, leb, eqb}
 use Rattle.cdf.specs.Step.{Step, got, stop, test}
 use Rattle.cdf.specs.Below.{allBelow}
 use Rattle.cdf.specs.Form.{form}
-use Rattle.header.specs.Model.{varAt, unlimited}
+use Rattle.grammar.specs.Tables.{varAt}
+use Rattle.header.specs.Model.{unlimited}
 use Rattle.header.specs.Records.{isRecord, recordSize, smallest, maxPosition}
-use Rattle.header.specs.declared.tables.Tables.{Tables}
+use Rattle.grammar.specs.declared.tables.Tables.{Tables}
 use Rattle.header.specs.declared.count.Counted.{Counted}
 use Rattle.header.specs.declared.count.Counted.the-variants.{Records, Refused}
 

@@ -6,13 +6,13 @@ use lib.ListN.{length}
 use lib.Dec.{leb}
 use Rattle.cdf.specs.Step.{Step, got, stop, bind, test}
 use Rattle.cdf.specs.declared.version.Admitted.{Admitted}
-use Rattle.header.specs.Tables.{blank, withCount}
-use Rattle.header.specs.Grammar.{header}
+use Rattle.grammar.specs.Tables.{blank, withCount}
+use Rattle.grammar.specs.Grammar.{header}
 use Rattle.header.specs.Model.{modelHolds}
 use Rattle.header.specs.Records.{sizesHold, endsHold, maxPosition}
 use Rattle.header.specs.Count.{recordCount}
-use Rattle.header.specs.declared.tables.Tables.{Tables}
-use Rattle.header.specs.declared.tables.Header.{Header}
+use Rattle.grammar.specs.declared.tables.Tables.{Tables}
+use Rattle.header.specs.declared.reader.Header.{Header}
 
 -- 01: "A header refusal returns its number, a place, and tables of version 1 with all else 0. Ends .. are 0 in any refusal"
 unfoldable pub refusal : ℕ → ℕ → Header

@@ -1,13 +1,5 @@
--- The header of a NetCDF-3 file, as definitions. Each comment names the section of document 01 ("01, ..") or the rule of the
--- format's grammar ("BNF: ..") that the definition writes down.
-pub mod Tables
-pub mod Within
-pub mod Dims
-pub mod Attrs
-pub mod Vars
-pub mod Grammar
+-- What the header reader judges and answers, as definitions. Each comment names the section of document 01 ("01, ..").
 pub mod Model
 pub mod Records
 pub mod Count
 pub mod Header
-pub mod Meaning

@@ -5,23 +5,9 @@ use mathlib.Core.List.{List}
 use lib.ListN.{getD}
 use lib.Dec.{ltb, eqb}
 use Rattle.cdf.specs.Below.{allBelow, firstBelow}
-use Rattle.header.specs.Tables.{noDim, noAttr, noVar}
-use Rattle.header.specs.declared.tables.Dim.{Dim}
-use Rattle.header.specs.declared.tables.Attr.{Attr}
-use Rattle.header.specs.declared.tables.Var.{Var}
-use Rattle.header.specs.declared.tables.Tables.{Tables}
-
-abbrev pub dimAt : Tables → ℕ → Dim
-dimAt t i = getD (t .dims) i noDim
-
-abbrev pub attrAt : Tables → ℕ → Attr
-attrAt t i = getD (t .attrs) i noAttr
-
-abbrev pub varAt : Tables → ℕ → Var
-varAt t i = getD (t .vars) i noVar
-
-abbrev pub idAt : Var → ℕ → ℕ
-idAt v k = getD (v .ids) k 0
+use Rattle.grammar.specs.Tables.{dimAt, attrAt, varAt, idAt}
+use Rattle.grammar.specs.declared.tables.Var.{Var}
+use Rattle.grammar.specs.declared.tables.Tables.{Tables}
 
 -- where a name stands: its place and the number of its bytes
 pub record Span : Type 0 where

@@ -7,11 +7,11 @@ use lib.Dec.{ltb, leb, eqb}
 use Rattle.cdf.specs.Below.{allBelow}
 use Rattle.cdf.specs.Padding.{padding}
 use Rattle.cdf.specs.Types.{typeOf, sizeOf}
-use Rattle.header.specs.Tables.{noDim}
-use Rattle.header.specs.Model.{varAt, idAt}
-use Rattle.header.specs.declared.tables.Dim.{Dim}
-use Rattle.header.specs.declared.tables.Var.{Var}
-use Rattle.header.specs.declared.tables.Tables.{Tables}
+use Rattle.grammar.specs.Tables.{noDim}
+use Rattle.grammar.specs.Tables.{varAt, idAt}
+use Rattle.grammar.specs.declared.tables.Dim.{Dim}
+use Rattle.grammar.specs.declared.tables.Var.{Var}
+use Rattle.grammar.specs.declared.tables.Tables.{Tables}
 
 -- g 0 × g 1 × .. × g (n - 1), the empty product being 1
 unfoldable pub product : (ℕ → ℕ) → ℕ → ℕ

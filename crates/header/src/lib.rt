@@ -1,8 +1,4 @@
-// The header of a NetCDF-3 file: its tables, the lists of the grammar, the model rules, the record count.
-pub mod tables; // tables.rt: the tables and their capacities
-pub mod dims; // dims.rt: the list of dimensions
-pub mod attrs; // attrs.rt: attributes, and the list of global ones
-pub mod vars; // vars.rt: the list of variables
+// The header reader: what the grammar accepts, judged by the model rules, with its record count.
 pub mod names; // names.rt: names that are not empty and differ
 pub mod model; // model.rt: the model rules
 pub mod records; // records.rt: chunks, record size and where variables end

@@ -2,14 +2,14 @@
 ghost use mathlib.Core.Path.{_≡_};
 ghost use Prim.Native.Nat.{_≤_};
 ghost use Rattle.header.specs.Model.{namesHold, unlimited, oneUnlimited, idHolds, idsHold, modelHolds};
-ghost use Rattle.header.specs.Within.{Within};
+ghost use Rattle.grammar.specs.Within.{Within};
 use crate::names::attr_names_hold;
 use crate::names::dim_names_hold;
 use crate::names::var_names_hold;
-use crate::tables::Attr;
-use crate::tables::Dim;
-use crate::tables::Tables;
-use crate::tables::Var;
+use grammar::tables::Attr;
+use grammar::tables::Dim;
+use grammar::tables::Tables;
+use grammar::tables::Var;
 
 fn names_hold(s: &[u8], t: Tables) -> bool
     requires { ⌜ Within t ⌝ }

@@ -6,11 +6,11 @@ ghost use lib.ListN.{length, getD};
 ghost use lib.Dec.{ltb};
 ghost use Rattle.cdf.specs.Below.{allBelow};
 ghost use Rattle.header.specs.Model.{Span, sameName, distinct, dimNames, varNames, attrNames};
-ghost use Rattle.header.specs.Within.{Within};
-use crate::tables::Attr;
-use crate::tables::Dim;
-use crate::tables::Tables;
-use crate::tables::Var;
+ghost use Rattle.grammar.specs.Within.{Within};
+use grammar::tables::Attr;
+use grammar::tables::Dim;
+use grammar::tables::Tables;
+use grammar::tables::Var;
 
 // The byte `i` places after `at`, or 0 past the end.
 fn byte_at(s: &[u8], at: usize, i: usize) -> u8

@@ -12,10 +12,11 @@ use borrow.Author.Tests.{lt-ltb, le-ltb, le-leb, lt-leb, eq-eqb, ne-eqb}
 use Rattle.cdf.specs.Step.{Step, got, stop}
 use Rattle.cdf.specs.Below.{allBelow}
 use Rattle.cdf.proofs.Laws.Step.{by-true, by-false}
-use Rattle.header.specs.Model.{varAt, unlimited, idsHold}
+use Rattle.grammar.specs.Tables.{varAt}
+use Rattle.header.specs.Model.{unlimited, idsHold}
 use Rattle.header.specs.Records.{smallest, total, isRecord, paddedBytes, recordPart, recordSize, maxPosition}
 use Rattle.header.specs.Count.{hasUnlimited, hasRecords, isOpen, firstBegin, divided, recordCount}
-use Rattle.header.specs.declared.tables.Tables.{Tables}
+use Rattle.grammar.specs.declared.tables.Tables.{Tables}
 use Rattle.header.proofs.Laws.Records.{padded-pos}
 
 -- the smaller of two begins

@@ -9,14 +9,14 @@ use borrow.Author.Tests.{le-leb, lt-leb}
 use Rattle.cdf.specs.Step.{Step, got, stop, bind}
 use Rattle.cdf.specs.declared.version.Admitted.{Admitted}
 use Rattle.cdf.proofs.Laws.Step.{by-got, by-stop, by-true, by-false}
-use Rattle.header.specs.Tables.{withCount}
-use Rattle.header.specs.Grammar.{header}
+use Rattle.grammar.specs.Tables.{withCount}
+use Rattle.grammar.specs.Grammar.{header}
 use Rattle.header.specs.Model.{modelHolds}
 use Rattle.header.specs.Records.{sizesHold, endsHold, maxPosition}
 use Rattle.header.specs.Count.{recordCount}
 use Rattle.header.specs.Header.{refusal, accepted, answer, judged, readHeader}
-use Rattle.header.specs.declared.tables.Tables.{Tables}
-use Rattle.header.specs.declared.tables.Header.{Header}
+use Rattle.grammar.specs.declared.tables.Tables.{Tables}
+use Rattle.header.specs.declared.reader.Header.{Header}
 
 pub answer-stop : {h : Header} {m : Step Tables} {k p : ℕ} → h ≡ refusal k p → stop k p ≡ m → h ≡ answer m
 unfolding answer

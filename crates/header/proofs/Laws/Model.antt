@@ -9,9 +9,10 @@ use lib.Dec.{ltb, eqb}
 use borrow.Author.Tests.{lt-ltb, le-ltb, eq-eqb, ne-eqb}
 use Rattle.cdf.specs.Below.{allBelow, firstBelow}
 use Rattle.cdf.proofs.Laws.Below.{both, all-hold, one-fails, first-none, first-is}
-use Rattle.header.specs.Model.{Span, sameName, isNew, distinct, dimNames, varNames, attrNames, namesHold, dimAt, varAt, idAt, unlimited, oneUnlimited, idHolds, idsHold, modelHolds}
-use Rattle.header.specs.declared.tables.Var.{Var}
-use Rattle.header.specs.declared.tables.Tables.{Tables}
+use Rattle.grammar.specs.Tables.{dimAt, varAt, idAt}
+use Rattle.header.specs.Model.{Span, sameName, isNew, distinct, dimNames, varNames, attrNames, namesHold, unlimited, oneUnlimited, idHolds, idsHold, modelHolds}
+use Rattle.grammar.specs.declared.tables.Var.{Var}
+use Rattle.grammar.specs.declared.tables.Tables.{Tables}
 
 module _ (s : List ℕ) (a b : Span) where
   pub same-all : a .chars ≡ b .chars → ((i : ℕ) → i < a .chars → getD s (a .at + i) 0 ≡ getD s (b .at + i) 0) → true ≡ sameName s a b

@@ -16,11 +16,12 @@ use Rattle.cdf.specs.Types.{typeOf, sizeOf}
 use Rattle.cdf.specs.declared.types.DataType.{DataType}
 use Rattle.cdf.specs.declared.types.DataType.the-variants.{I8, U8, I16, I32, F32, F64}
 use Rattle.cdf.proofs.Laws.Below.{order, both, all-hold, one-fails, holds-at}
-use Rattle.header.specs.Model.{varAt, idAt, dimAt, idHolds, idsHold}
+use Rattle.grammar.specs.Tables.{varAt, idAt, dimAt}
+use Rattle.header.specs.Model.{idHolds, idsHold}
 use Rattle.header.specs.Records.{product, total, smallest, lengthAt, isRecord, outer, chunk, chunkBytes, paddedBytes, recordPart, recordSize, maxPosition, maxChunk, capped, placed, sizesHold, lastEnd, endOf, endsHold}
-use Rattle.header.specs.declared.tables.Dim.{Dim}
-use Rattle.header.specs.declared.tables.Var.{Var}
-use Rattle.header.specs.declared.tables.Tables.{Tables}
+use Rattle.grammar.specs.declared.tables.Dim.{Dim}
+use Rattle.grammar.specs.declared.tables.Var.{Var}
+use Rattle.grammar.specs.declared.tables.Tables.{Tables}
 
 -- a number that is capped
 pub capped-in : (x : ℕ) → x ≤ maxChunk → capped x ≡ x

@@ -2,7 +2,7 @@ use Rattle.header.specs.Records.{isRecord}
 use borrow.Author.Needs.{needs}
 use Rattle.header.proofs.Laws.Count as laws
 use Rattle.header.proofs.Laws.Records.{ids-below}
-use Rattle.header.specs.Model.{varAt}
+use Rattle.grammar.specs.Tables.{varAt}
 use mathlib.Core.Bool.{Bool, cond}
 use mathlib.Core.Path.{_≡_, refl, sym, ap, _∙_}
 use native.Mathlib.Omega.{arith}

@@ -1,6 +1,7 @@
 use borrow.Author.Needs.{needs}
 use Rattle.header.proofs.Laws.Model.{id-first, id-fixed, id-large, id-later, row-ids, ids-all, ids-not}
-use Rattle.header.specs.Model.{dimAt, varAt, idHolds}
+use Rattle.grammar.specs.Tables.{dimAt, varAt}
+use Rattle.header.specs.Model.{idHolds}
 use Rattle.cdf.specs.Below.{allBelow}
 use borrow.Author.Count.{below-none, below-more}
 use mathlib.Core.Logic.{⊎-elim}

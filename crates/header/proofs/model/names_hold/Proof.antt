@@ -1,7 +1,8 @@
 use Rattle.header.proofs.Laws.Model.{names-dims, names-vars, names-globals, names-own, names-all}
 use borrow.Author.Tests.{not-true, not-false}
 use borrow.Author.Needs.{needs}
-use Rattle.header.specs.Model.{distinct, dimNames, varNames, attrNames, varAt}
+use Rattle.grammar.specs.Tables.{varAt}
+use Rattle.header.specs.Model.{distinct, dimNames, varNames, attrNames}
 use borrow.Author.Count.{below-none, below-more}
 use mathlib.Core.Bool.{true}
 use mathlib.Core.Path.{_≡_, sym, _∙_}

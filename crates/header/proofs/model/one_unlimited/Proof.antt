@@ -1,6 +1,7 @@
 use borrow.Author.Needs.{needs}
 use Rattle.header.proofs.Laws.Model.{Single, single-fixed, single-only, one-holds, one-breaks}
-use Rattle.header.specs.Model.{dimAt, unlimited}
+use Rattle.grammar.specs.Tables.{dimAt}
+use Rattle.header.specs.Model.{unlimited}
 use borrow.Author.Count.{below-none, below-more}
 use mathlib.Core.Logic.{⊎-elim}
 use mathlib.Core.Path.{_≡_, sym, _∙_}

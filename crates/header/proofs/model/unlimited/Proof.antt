@@ -1,6 +1,6 @@
 use borrow.Author.Needs.{needs}
 use Rattle.header.proofs.Laws.Model.{unlimited-none, unlimited-is}
-use Rattle.header.specs.Model.{dimAt}
+use Rattle.grammar.specs.Tables.{dimAt}
 use borrow.Author.Count.{below-none, below-more}
 use mathlib.Core.Path.{_≡_, _∙_}
 use native.Mathlib.Omega.{arith}

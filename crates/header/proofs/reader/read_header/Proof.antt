@@ -1,5 +1,5 @@
 use Rattle.header.proofs.Laws.Header.{read-longer, read-larger, read-stops, read-judged}
-use Rattle.header.specs.Dims.{ofTables}
+use Rattle.grammar.specs.Dims.{ofTables}
 use Rattle.cdf.specs.declared.step.Next.{Next}
 use native.Mathlib.Omega.{arith}
 use mathlib.Core.Path.{_≡_, refl, sym, ap, _∙_}
@@ -9,7 +9,7 @@ use Rattle.header.proofs.reader.read_header.Tie as tie
 use Rattle.header.proofs.reader.read_header.Reads as reads
 use Rattle.header.proofs.reader.read_header.Lts as lts
 use Rattle.header.proofs.reader.judged.Reads as judged-reads
-use Rattle.header.proofs.reader.parse_header.Reads as parse-header-reads
+use Rattle.grammar.proofs.whole.parse_header.Reads as parse-header-reads
 use Rattle.header.proofs.reader.refused.Reads as refused-reads
 
 -- src/reader.rt:109:9

@@ -5,7 +5,7 @@ use Rattle.header.proofs.reader.refused.Statement.{statement}
 use Rattle.header.proofs.reader.refused.Tie as tie
 use Rattle.header.proofs.reader.refused.Reads as reads
 use Rattle.header.proofs.reader.refused.Lts as lts
-use Rattle.header.proofs.tables.blank.Reads as blank-reads
+use Rattle.grammar.proofs.tables.blank.Reads as blank-reads
 
 -- src/reader.rt:69:17
 blank-requires : tie.Need-blank-requires

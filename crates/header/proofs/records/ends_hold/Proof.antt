@@ -1,7 +1,7 @@
 use borrow.Author.Needs.{needs}
 use Rattle.header.proofs.Laws.Records.{ids-below, capped-is, bytes-in, padded-are, begin-in, chunk-in, end-of, ends-all, ends-not, bytes-bound, padded-known}
 use Rattle.header.specs.Records.{maxPosition, endOf, maxChunk}
-use Rattle.header.specs.Model.{varAt}
+use Rattle.grammar.specs.Tables.{varAt}
 use borrow.Author.Tests.{not-true, not-false}
 use borrow.Author.Count.{below-none, below-more}
 use lib.Dec.{leb}

@@ -1,4 +1,4 @@
-use Rattle.header.specs.Model.{varAt}
+use Rattle.grammar.specs.Tables.{varAt}
 use borrow.Author.Needs.{needs}
 use Rattle.header.proofs.Laws.Records.{part, ids-below, capped-is, capped-above, bytes-over, padded-are, padded-in, placed-if, sizes-begin, sizes-chunk, sizes-sum, sizes-all, size-is, total-more, part-of, sum-more, never, total-none}
 use Rattle.header.specs.Records.{maxChunk, placed, total, recordSize}

@@ -1,0 +1,3 @@
+-- The laws of the definitions in specs/, under the same file names; `Lists` has those of the lists' parts.
+pub mod Tables
+pub mod Lists

@@ -1,0 +1,134 @@
+// Attributes, and the list of the global ones.
+ghost use mathlib.Core.Path.{_≡_};
+ghost use Prim.Native.Nat.{_+_, _≤_, _<_};
+ghost use lib.ListN.{length};
+ghost use Rattle.cdf.specs.Step.{many};
+ghost use Rattle.cdf.specs.Form.{form};
+ghost use Rattle.cdf.specs.Word.{ofWord};
+ghost use Rattle.grammar.specs.Dims.{ofListed};
+ghost use Rattle.grammar.specs.Attrs.{ofAttr, attrValues, attr, attrStep, attrCount, globalList};
+ghost use Rattle.grammar.specs.Within.{Within};
+use crate::tables::Attr;
+use crate::tables::Listed;
+use crate::tables::MAX_ATTRS;
+use crate::tables::Tables;
+use cdf::list::ATTRIBUTE_TAG;
+use cdf::list::parse_list_start;
+use cdf::name::parse_name_string;
+use cdf::step::Next;
+use cdf::step::Word;
+use cdf::types::DataType;
+use cdf::types::Typed;
+use cdf::types::parse_data_type;
+use cdf::values::parse_typed_data_elements;
+use cdf::word::parse_non_neg;
+
+pub enum AttrStep {
+    Got(Attr, usize),
+    Stop(u8, usize),
+}
+
+// An attribute after its name: type, element count, values, padding.
+fn parse_attr_values(s: &[u8], size: u64, at: usize, name: usize, chars: usize) -> AttrStep
+    requires { ⌜ at ≤ length (now s) ⌝ }
+    ensures { λ r. ⌜ ofAttr r ≡ attrValues 6 4 name chars (now (s .entry)) size at ⌝ }
+{
+    match parse_data_type(s, size, at) {
+        Typed::Stop(k, p) => AttrStep::Stop(k, p),
+        Typed::Got(kind, next) => match parse_non_neg(s, size, next) {
+            Word::Stop(k, p) => AttrStep::Stop(k, p),
+            Word::Got(count, values) => {
+                match parse_typed_data_elements(s, size, values, count, kind.size_of()) {
+                    Next::Stop(k, p) => AttrStep::Stop(k, p),
+                    Next::At(end) => AttrStep::Got(
+                        Attr {
+                            name,
+                            chars,
+                            code: kind.code(),
+                            count,
+                            values,
+                        },
+                        end,
+                    ),
+                }
+            }
+        },
+    }
+}
+
+pub fn parse_attr(s: &[u8], size: u64, at: usize, version: u8) -> AttrStep
+    requires { ⌜ at ≤ length (now s) ⌝ }
+    ensures { λ r. ⌜ ofAttr r ≡ attr (form version) (now (s .entry)) size at ⌝ }
+{
+    match parse_name_string(s, size, at) {
+        Word::Stop(k, p) => AttrStep::Stop(k, p),
+        Word::Got(chars, next) => parse_attr_values(s, size, next, at + 4, chars as usize),
+    }
+}
+
+// How many attributes the list at `at` has, where `used` rows are taken.
+pub fn parse_attr_count(s: &[u8], size: u64, at: usize, used: usize) -> Word
+    requires { ⌜ (at ≤ length (now s)) × (used ≤ 128) ⌝ }
+    ensures { λ r. ⌜ ofWord r ≡ attrCount (form 1) (now (s .entry)) size used at ⌝ }
+{
+    parse_list_start(s, size, at, ATTRIBUTE_TAG, (MAX_ATTRS - used) as u64)
+}
+
+// The `n` attributes from `at`.
+fn parse_attrs(s: &[u8], size: u64, at: usize, version: u8, n: usize, tables: Tables) -> Listed
+    requires { ⌜ (at ≤ length (now s)) × (tables .nattrs + n ≤ 128) × Within tables ⌝ }
+    ensures { λ r. ⌜ (ofListed r ≡ many (attrStep (form version) (now (s .entry)) size) n tables at) × (r .tables .nvars ≡ tables .nvars) × Within (r .tables) ⌝ }
+{
+    let mut t = tables;
+    let mut at = at;
+    let mut i = 0;
+    while i < n {
+        match parse_attr(s, size, at, version) {
+            AttrStep::Stop(k, p) => {
+                return Listed {
+                    next: Next::Stop(k, p),
+                    tables: t,
+                };
+            }
+            AttrStep::Got(a, end) => {
+                let m = t.nattrs;
+                t.attrs[m] = a;
+                t.nattrs = m + 1;
+                at = end;
+            }
+        }
+        i += 1;
+    }
+    Listed {
+        next: Next::At(at),
+        tables: t,
+    }
+}
+
+// The list of global attributes at `at`.
+pub fn parse_global_attrs_list(
+    s: &[u8],
+    size: u64,
+    at: usize,
+    version: u8,
+    tables: Tables,
+) -> Listed
+    requires { ⌜ (at ≤ length (now s)) × Within tables ⌝ }
+    ensures { λ r. ⌜ (ofListed r ≡ globalList (form version) (now (s .entry)) size tables at) × (r .tables .nvars ≡ tables .nvars) × Within (r .tables) ⌝ }
+{
+    let used = tables.nattrs;
+    match parse_attr_count(s, size, at, used) {
+        Word::Stop(k, p) => Listed {
+            next: Next::Stop(k, p),
+            tables,
+        },
+        Word::Got(n, next) => {
+            let read = parse_attrs(s, size, next, version, n as usize, tables);
+            let next = read.next;
+            let mut t = read.tables;
+            let m = t.nattrs;
+            t.globals = m;
+            Listed { next, tables: t }
+        }
+    }
+}
