@@ -14,14 +14,13 @@ pub extern "C" fn fungal_read_header(prefix: &[u8], size: u64, numbers: &mut [u6
         offset64: true,
     };
     let h = read_header(prefix, size, both);
-    let t = h.tables;
     numbers[0] = h.place as u64;
     numbers[1] = h.end as u64;
-    numbers[2] = t.count;
-    numbers[3] = t.version as u64;
-    numbers[4] = t.ndims as u64;
-    numbers[5] = t.nattrs as u64;
-    numbers[6] = t.globals as u64;
-    numbers[7] = t.nvars as u64;
+    numbers[2] = h.tables.count;
+    numbers[3] = h.tables.version as u64;
+    numbers[4] = h.tables.ndims as u64;
+    numbers[5] = h.tables.nattrs as u64;
+    numbers[6] = h.tables.globals as u64;
+    numbers[7] = h.tables.nvars as u64;
     h.number
 }
