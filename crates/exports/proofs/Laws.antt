@@ -1,2 +1,3 @@
--- Laws of the tests that stand before a decoder.
+-- Laws of what the exported functions test and answer.
 pub mod Room
+pub mod Numbers

@@ -1,11 +1,16 @@
 // The header reader, for a caller that nothing checks. The tables cross as numbers.
+ghost use mathlib.Core.Path.{_≡_};
+ghost use lib.ListN.{length};
+ghost use Rattle.exports.specs.Numbers.{answered, written};
 use cdf::version::Admitted;
 use header::reader::read_header;
 
 // The answer number; to `numbers` go place, header's end, record count, version, and the numbers of dimensions, of attributes, of
 // global ones among them, and of variables. Fewer than eight places: 22, and nothing is written.
 #[no_mangle]
-pub extern "C" fn fungal_read_header(prefix: &[u8], size: u64, numbers: &mut [u64]) -> u8 {
+pub extern "C" fn fungal_read_header(prefix: &[u8], size: u64, numbers: &mut [u64]) -> u8
+    ensures { λ r. ⌜ (r ≡ answered (now (prefix .entry)) size (length (now (numbers .entry)))) × (now (numbers .exit) ≡ written (now (prefix .entry)) size (now (numbers .entry))) ⌝ }
+{
     if numbers.len() < 8 {
         return 22;
     }

@@ -1,5 +1,8 @@
+use Prim.Native.Nat.{_≤_}
+use denote.Ref.{now}
+use Rattle.exports.proofs.Laws.Numbers.{answered-short, written-short, answered-read, written-read}
 use native.Mathlib.Omega.{arith}
-use lib.ListN.{length-set}
+use lib.ListN.{length, length-set}
 use borrow.Author.Needs.{needs}
 use Rattle.exports.proofs.reader.fungal_read_header.Statement.{statement}
 use Rattle.exports.proofs.reader.fungal_read_header.Tie as tie
@@ -9,7 +12,9 @@ use Rattle.header.proofs.reader.read_header.Reads as read-header-reads
 
 -- src/reader.rt:10:9
 returns : tie.Need-returns
-returns c = search needs
+returns c =
+    let d = now (c .before .before .before .args .numbers) in
+    (answered-short _ _ d (c .if1 .taken), written-short _ _ d (c .if1 .taken))
 
 -- src/reader.rt:16:9
 read-header-requires : tie.Need-read-header-requires
@@ -57,7 +62,11 @@ same-length c = search needs
 
 -- src/reader.rt:7:1
 returns-2 : tie.Need-returns-2
-returns-2 c = search needs
+returns-2 c =
+    let d = now (c .before .before .before .before .before .args .numbers) in
+    let h = c .before .read-header .ensures in
+    let l : 8 ≤ length d = omega arith in
+    (answered-read _ _ d h l, written-read _ _ d h l)
 
 pub fungal-read-header-spec : {M : Type 1} → statement M
 fungal-read-header-spec =
