@@ -3,6 +3,9 @@ ghost use mathlib.Core.Path.{_≡_};
 ghost use mathlib.Core.Bool.{true};
 ghost use Prim.Native.Nat.{ℕ, _+_, _*_, _<_, _≤_};
 ghost use lib.Dec.{leb};
+ghost use lib.ListN.{length};
+ghost use Rattle.decode.specs.Values.{byte, short, int, float, double, number};
+ghost use Rattle.exports.specs.Decoded.{fitting, decoded};
 use decode::chunk::decode_f32;
 use decode::chunk::decode_f64;
 use decode::chunk::decode_i8;
@@ -40,7 +43,9 @@ fn floats_within(src: usize, out: usize, count: usize, chunk: usize, stride: usi
 }
 
 #[no_mangle]
-pub extern "C" fn fungal_decode_i8(src: &[u8], out: &mut [i8]) -> u8 {
+pub extern "C" fn fungal_decode_i8(src: &[u8], out: &mut [i8]) -> u8
+    ensures { λ r. ⌜ (r ≡ fitting 1 (length (now (src .entry))) (length (now (out .entry)))) × (now (out .exit) ≡ decoded byte 1 (now (src .entry)) (now (out .entry))) ⌝ }
+{
     if src.len() != out.len() {
         return 22;
     }
@@ -49,7 +54,9 @@ pub extern "C" fn fungal_decode_i8(src: &[u8], out: &mut [i8]) -> u8 {
 }
 
 #[no_mangle]
-pub extern "C" fn fungal_decode_u8(src: &[u8], out: &mut [u8]) -> u8 {
+pub extern "C" fn fungal_decode_u8(src: &[u8], out: &mut [u8]) -> u8
+    ensures { λ r. ⌜ (r ≡ fitting 1 (length (now (src .entry))) (length (now (out .entry)))) × (now (out .exit) ≡ decoded number 1 (now (src .entry)) (now (out .entry))) ⌝ }
+{
     if src.len() != out.len() {
         return 22;
     }
@@ -58,7 +65,9 @@ pub extern "C" fn fungal_decode_u8(src: &[u8], out: &mut [u8]) -> u8 {
 }
 
 #[no_mangle]
-pub extern "C" fn fungal_decode_i16(src: &[u8], out: &mut [i16]) -> u8 {
+pub extern "C" fn fungal_decode_i16(src: &[u8], out: &mut [i16]) -> u8
+    ensures { λ r. ⌜ (r ≡ fitting 2 (length (now (src .entry))) (length (now (out .entry)))) × (now (out .exit) ≡ decoded short 2 (now (src .entry)) (now (out .entry))) ⌝ }
+{
     if src.len() != 2 * out.len() {
         return 22;
     }
@@ -67,7 +76,9 @@ pub extern "C" fn fungal_decode_i16(src: &[u8], out: &mut [i16]) -> u8 {
 }
 
 #[no_mangle]
-pub extern "C" fn fungal_decode_i32(src: &[u8], out: &mut [i32]) -> u8 {
+pub extern "C" fn fungal_decode_i32(src: &[u8], out: &mut [i32]) -> u8
+    ensures { λ r. ⌜ (r ≡ fitting 4 (length (now (src .entry))) (length (now (out .entry)))) × (now (out .exit) ≡ decoded int 4 (now (src .entry)) (now (out .entry))) ⌝ }
+{
     if src.len() != 4 * out.len() {
         return 22;
     }
@@ -76,7 +87,9 @@ pub extern "C" fn fungal_decode_i32(src: &[u8], out: &mut [i32]) -> u8 {
 }
 
 #[no_mangle]
-pub extern "C" fn fungal_decode_f32(src: &[u8], out: &mut [f32]) -> u8 {
+pub extern "C" fn fungal_decode_f32(src: &[u8], out: &mut [f32]) -> u8
+    ensures { λ r. ⌜ (r ≡ fitting 4 (length (now (src .entry))) (length (now (out .entry)))) × (now (out .exit) ≡ decoded float 4 (now (src .entry)) (now (out .entry))) ⌝ }
+{
     if src.len() != 4 * out.len() {
         return 22;
     }
@@ -85,7 +98,9 @@ pub extern "C" fn fungal_decode_f32(src: &[u8], out: &mut [f32]) -> u8 {
 }
 
 #[no_mangle]
-pub extern "C" fn fungal_decode_f64(src: &[u8], out: &mut [f64]) -> u8 {
+pub extern "C" fn fungal_decode_f64(src: &[u8], out: &mut [f64]) -> u8
+    ensures { λ r. ⌜ (r ≡ fitting 8 (length (now (src .entry))) (length (now (out .entry)))) × (now (out .exit) ≡ decoded double 8 (now (src .entry)) (now (out .entry))) ⌝ }
+{
     if src.len() != 8 * out.len() {
         return 22;
     }
@@ -94,7 +109,9 @@ pub extern "C" fn fungal_decode_f64(src: &[u8], out: &mut [f64]) -> u8 {
 }
 
 #[no_mangle]
-pub extern "C" fn fungal_decode_u32(src: &[u8], out: &mut [u32]) -> u8 {
+pub extern "C" fn fungal_decode_u32(src: &[u8], out: &mut [u32]) -> u8
+    ensures { λ r. ⌜ (r ≡ fitting 4 (length (now (src .entry))) (length (now (out .entry)))) × (now (out .exit) ≡ decoded number 4 (now (src .entry)) (now (out .entry))) ⌝ }
+{
     if src.len() != 4 * out.len() {
         return 22;
     }
@@ -103,7 +120,9 @@ pub extern "C" fn fungal_decode_u32(src: &[u8], out: &mut [u32]) -> u8 {
 }
 
 #[no_mangle]
-pub extern "C" fn fungal_decode_u64(src: &[u8], out: &mut [u64]) -> u8 {
+pub extern "C" fn fungal_decode_u64(src: &[u8], out: &mut [u64]) -> u8
+    ensures { λ r. ⌜ (r ≡ fitting 8 (length (now (src .entry))) (length (now (out .entry)))) × (now (out .exit) ≡ decoded number 8 (now (src .entry)) (now (out .entry))) ⌝ }
+{
     if src.len() != 8 * out.len() {
         return 22;
     }
