@@ -1,4 +1,4 @@
-use Prim.Native.Nat.{_≤_}
+use Prim.Native.Nat.{_≤_, _<_}
 use denote.Ref.{now}
 use Rattle.exports.proofs.Laws.Numbers.{answered-short, written-short, answered-read, written-read}
 use native.Mathlib.Omega.{arith}
@@ -14,7 +14,8 @@ use Rattle.header.proofs.reader.read_header.Reads as read-header-reads
 returns : tie.Need-returns
 returns c =
     let d = now (c .before .before .before .args .numbers) in
-    (answered-short _ _ d (c .if1 .taken), written-short _ _ d (c .if1 .taken))
+    let l : length d < 8 = omega arith in
+    (answered-short _ _ d l, written-short _ _ d l)
 
 -- src/reader.rt:16:9
 read-header-requires : tie.Need-read-header-requires
