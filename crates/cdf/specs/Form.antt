@@ -3,6 +3,7 @@ use Prim.Native.Nat.{ℕ}
 use mathlib.Core.Bool.{cond}
 use lib.Dec.{eqb}
 
+-- the widths and limits that depend on the version
 pub record Form : Type 0 where
   -- bytes of a count, length, id or vsize
   pub word : ℕ

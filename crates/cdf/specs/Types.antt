@@ -20,6 +20,7 @@ ofTyped (Stop k p) = stop k p
 abbrev pub types : List DataType
 types = I8 ∷ U8 ∷ I16 ∷ I32 ∷ F32 ∷ F64 ∷ []
 
+-- the code of each type (BNF: NC_BYTE = 1 to NC_DOUBLE = 6)
 abbrev pub codeOf : DataType → ℕ
 codeOf I8 = 1
 codeOf U8 = 2

@@ -29,6 +29,7 @@ table =
     ∷ record { from = 0xF4; to = 0xF4; more = 3; low = 0x80; high = 0x8F }
     ∷ []
 
+-- a byte from `low` to `high`, both included
 abbrev pub between : ℕ → ℕ → ℕ → Bool
 between low high b = leb low b && leb b high
 
@@ -57,6 +58,7 @@ unfoldable pub whole : Scanned → Bool
 whole Bad = false
 whole (Good d) = eqb (d .more) 0
 
+-- the bytes of a text, one after the other
 unfoldable pub scan : List ℕ → Scanned → Scanned
 scan [] st = st
 scan (b ∷ bs) st = scan bs (next st b)
@@ -65,5 +67,6 @@ scan (b ∷ bs) st = scan bs (next st b)
 abbrev pub noneDue : Due
 noneDue = record { more = 0; low = 0x80; high = 0xBF }
 
+-- 01: "UTF-8 as in Unicode's table of well-formed sequences"
 unfoldable pub utf8 : List ℕ → Bool
 utf8 bs = whole (scan bs (Good noneDue))

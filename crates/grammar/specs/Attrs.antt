@@ -27,9 +27,11 @@ attrValues codes k at n s size p =
     bind (values c (sizeOf type) s size r) (λ _ e.
     got (record { name = at; chars = n; code = codeOf type; count = c; values = r }) e)))
 
+-- BNF: attr = name nc_type nelems [values ...]
 unfoldable pub attr : Form → List ℕ → ℕ → ℕ → Step Attr
 attr f s size at = bind (name (f .word) s size at) (λ n p. attrValues (f .codes) (f .word) (at + f .word) n s size p)
 
+-- one attribute more in the tables (BNF: [attr ...])
 unfoldable pub attrStep : Form → List ℕ → ℕ → Tables → ℕ → Step Tables
 attrStep f s size t at = bind (attr f s size at) (λ a e. got (addAttr t a) e)
 

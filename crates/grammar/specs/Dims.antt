@@ -20,17 +20,21 @@ abbrev pub ofDim : DimStep → Step Dim
 ofDim (Got d n) = got d n
 ofDim (Stop k p) = stop k p
 
+-- the tables that were read and where they end, or a refusal
 abbrev pub ofTables : Next → Tables → Step Tables
 ofTables (At n) t = got t n
 ofTables (Next.Stop k p) t = stop k p
 
+-- the same, of a function's answer
 abbrev pub ofListed : Listed → Step Tables
 ofListed r = ofTables (r .next) (r .tables)
 
+-- BNF: dim = name dim_length
 unfoldable pub dim : Form → List ℕ → ℕ → ℕ → Step Dim
 dim f s size at =
     bind (name (f .word) s size at) (λ n p. bind (nonNegative (f .word) s size p) (λ l e. got (record { name = at + f .word; chars = n; length = l }) e))
 
+-- one dimension more in the tables (BNF: [dim ...])
 unfoldable pub dimStep : Form → List ℕ → ℕ → Tables → ℕ → Step Tables
 dimStep f s size t at = bind (dim f s size at) (λ d e. got (addDim t d) e)
 

@@ -17,6 +17,7 @@ unfoldable pub lists : Form → List ℕ → ℕ → Tables → ℕ → Step Tab
 lists f s size t at =
     bind (dimList f s size t at) (λ u p. bind (globalList f s size u p) (λ w q. varList f s size w q))
 
+-- BNF: header = magic numrecs dim_list gatt_list var_list
 unfoldable pub header : Admitted → List ℕ → ℕ → Step Tables
 header a s size =
     bind (magic s size) (λ _ p.

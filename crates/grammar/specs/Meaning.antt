@@ -12,6 +12,7 @@ unfoldable pub rows : {A : Type 0} → (ℕ → A) → ℕ → List A
 rows g zero = []
 rows g (suc n) = rows g n ++ (g n ∷ [])
 
+-- a dimension: its name as bytes, and its length
 pub record Dimension : Type 0 where
   pub name : List ℕ
   pub length : ℕ
@@ -23,6 +24,7 @@ pub record Attribute : Type 0 where
   pub count : ℕ
   pub values : List ℕ
 
+-- a variable with its ids, its attributes, and vsize and begin as read
 pub record Variable : Type 0 where
   pub name : List ℕ
   pub ids : List ℕ
@@ -31,6 +33,7 @@ pub record Variable : Type 0 where
   pub vsize : ℕ
   pub begin : ℕ
 
+-- the whole of the tables
 pub record Meaning : Type 0 where
   pub version : ℕ
   pub word : ℕ
@@ -41,9 +44,11 @@ pub record Meaning : Type 0 where
   pub variables : List Variable
 
 module _ (s : List ℕ) (t : Tables) where
+  -- the i-th dimension of the tables
   abbrev pub dimension : ℕ → Dimension
   dimension i = record { name = part s (dimAt t i .name) (dimAt t i .chars); length = dimAt t i .length }
 
+  -- the i-th attribute row of the tables
   abbrev pub attribute : ℕ → Attribute
   attribute i =
       record {
@@ -53,6 +58,7 @@ module _ (s : List ℕ) (t : Tables) where
         values = part s (attrAt t i .values) (attrAt t i .count * sizeOf (typeOf (attrAt t i .code)));
       }
 
+  -- the i-th variable of the tables
   abbrev pub variable : ℕ → Variable
   variable i =
       record {
@@ -64,6 +70,7 @@ module _ (s : List ℕ) (t : Tables) where
         begin = varAt t i .begin;
       }
 
+  -- 01, What is taken from the crate: version, count word, count and file size, and the rows below the counts
   unfoldable pub meaning : Meaning
   meaning =
       record {

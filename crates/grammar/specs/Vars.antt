@@ -30,16 +30,20 @@ abbrev pub ofRow : Next → Var → Step Var
 ofRow (At n) v = got v n
 ofRow (Next.Stop k p) v = stop k p
 
+-- the same, of a function's answer
 abbrev pub ofRowed : Rowed → Step Var
 ofRowed r = ofRow (r .next) (r .row)
 
+-- a row, how many attributes follow it and where, or a refusal
 abbrev pub ofStart : Next → Var → ℕ → Step VarStart
 ofStart (At n) v m = got (record { row = v; attrs = m }) n
 ofStart (Next.Stop k p) v m = stop k p
 
+-- the same, of a function's answer
 abbrev pub ofStarted : Started → Step VarStart
 ofStarted r = ofStart (r .next) (r .row) (r .attrs)
 
+-- type, vsize and begin, or a refusal
 abbrev pub ofTail : TailStep → Step Tail
 ofTail (Got t n) = got t n
 ofTail (Stop k p) = stop k p
@@ -52,6 +56,7 @@ named at n = record { name = at; chars = n; rank = 0; ids = replicate maxRank 0;
 abbrev pub addId : Var → ℕ → Var
 addId v i = record { name = v .name; chars = v .chars; rank = v .rank + 1; ids = set (v .ids) (v .rank) i; first = v .first; attrs = v .attrs; code = v .code; vsize = v .vsize; begin = v .begin }
 
+-- BNF: dimid = NON_NEG
 unfoldable pub dimid : Form → List ℕ → ℕ → Var → ℕ → Step Var
 dimid f s size v at = bind (nonNegative (f .word) s size at) (λ i e. got (addId v i) e)
 
@@ -72,6 +77,7 @@ varTail f s size at =
 abbrev pub joined : Var → ℕ → ℕ → Tail → Var
 joined v first n z = record { name = v .name; chars = v .chars; rank = v .rank; ids = v .ids; first = first; attrs = n; code = z .code; vsize = z .vsize; begin = z .begin }
 
+-- BNF: name nelems [dimid ...], and the start of vatt_list
 unfoldable pub varStart : Form → List ℕ → ℕ → ℕ → ℕ → Step VarStart
 varStart f s size used at =
     bind (varHead f s size at) (λ v p. bind (attrCount f s size used p) (λ n q. got (record { row = v; attrs = n }) q))

@@ -6,12 +6,14 @@ use Rattle.grammar.specs.Tables.{maxDims, maxVars, maxAttrs, maxRank, no
 use Rattle.grammar.specs.declared.tables.Var.{Var}
 use Rattle.grammar.specs.declared.tables.Tables.{Tables}
 
+-- 01, Capacities and Types: at most 8 dimensions, attributes among the 128, a type code of 1 to 6
 pub record RowWithin (v : Var) : Type 0 where
   pub rank : v .rank ≤ maxRank
   pub span : v .first + v .attrs ≤ maxAttrs
   pub low : 1 ≤ v .code
   pub high : v .code ≤ 6
 
+-- 01, Capacities: at most 32 dimensions, 128 attributes, 64 variables
 pub record Within (t : Tables) : Type 0 where
   pub dims : t .ndims ≤ maxDims
   pub attrs : t .nattrs ≤ maxAttrs

@@ -17,9 +17,11 @@ abbrev pub ofCounted : Counted → Step ℕ
 ofCounted (Records n) = got n 0
 ofCounted (Refused k) = stop k 0
 
+-- 01, Records: "no unlimited dimension"; `unlimited` is then the number of dimensions
 unfoldable pub hasUnlimited : Tables → Bool
 hasUnlimited t = ltb (unlimited t) (t .ndims)
 
+-- 01, Records: some variable is a record variable
 unfoldable pub hasRecords : Tables → Bool
 hasRecords t = not (allBelow (t .nvars) (λ i. not (isRecord (t .dims) (varAt t i))))
 

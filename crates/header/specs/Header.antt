@@ -18,6 +18,7 @@ use Rattle.header.specs.declared.reader.Header.{Header}
 unfoldable pub refusal : ℕ → ℕ → Header
 refusal k p = record { number = k; place = p; end = 0; tables = blank }
 
+-- 01, number 0: the header's end "is answered beside" the tables
 unfoldable pub accepted : Tables → ℕ → Header
 accepted t e = record { number = 0; place = 0; end = e; tables = t }
 

@@ -22,12 +22,15 @@ sameName s a b = eqb (a .chars) (b .chars) && allBelow (a .chars) (λ i. eqb (ge
 unfoldable pub isNew : List ℕ → (ℕ → Span) → ℕ → Bool
 isNew s names i = ltb 0 (names i .chars) && allBelow i (λ j. not (sameName s (names j) (names i)))
 
+-- no name of the first n is empty or twice
 unfoldable pub distinct : List ℕ → (ℕ → Span) → ℕ → Bool
 distinct s names n = allBelow n (isNew s names)
 
+-- the names of the dimensions
 abbrev pub dimNames : Tables → ℕ → Span
 dimNames t i = record { at = dimAt t i .name; chars = dimAt t i .chars }
 
+-- the names of the variables
 abbrev pub varNames : Tables → ℕ → Span
 varNames t i = record { at = varAt t i .name; chars = varAt t i .chars }
 
@@ -55,6 +58,7 @@ oneUnlimited t = allBelow (t .ndims) (λ i. not (eqb (dimAt t i .length) 0) || e
 unfoldable pub idHolds : Tables → Var → ℕ → Bool
 idHolds t v k = ltb (idAt v k) (t .ndims) && (eqb k 0 || not (eqb (dimAt t (idAt v k) .length) 0))
 
+-- and so for every id of every variable
 unfoldable pub idsHold : Tables → Bool
 idsHold t = allBelow (t .nvars) (λ i. allBelow (varAt t i .rank) (idHolds t (varAt t i)))
 

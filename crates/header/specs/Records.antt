@@ -60,9 +60,11 @@ recordPart ds v = cond (isRecord ds v) (paddedBytes ds v) 0
 unfoldable pub recordSize : Tables → ℕ
 recordSize t = total (λ i. recordPart (t .dims) (varAt t i)) (t .nvars)
 
+-- 01, Capacities and rules 12 and 15: 2^62
 abbrev pub maxPosition : ℕ
 maxPosition = 2 ^ 62
 
+-- 01, rule 12: 2^60
 abbrev pub maxChunk : ℕ
 maxChunk = 2 ^ 60
 
@@ -74,6 +76,7 @@ capped n = cond (leb n maxChunk) n (maxChunk + 1)
 abbrev pub placed : Tables → ℕ → Bool
 placed t i = leb (varAt t i .begin) maxPosition && leb (paddedBytes (t .dims) (varAt t i)) maxChunk
 
+-- 01, number 12, over all variables
 unfoldable pub sizesHold : Tables → Bool
 sizesHold t = allBelow (t .nvars) (placed t) && leb (recordSize t) maxChunk
 
@@ -81,6 +84,7 @@ sizesHold t = allBelow (t .nvars) (placed t) && leb (recordSize t) maxChunk
 abbrev pub lastEnd : Bool → ℕ → ℕ → ℕ → ℕ → ℕ
 lastEnd records begin padded step n = cond records (cond (eqb n 0) begin (begin + (n - 1) * step + padded)) (begin + padded)
 
+-- where a variable ends, if there are n records
 abbrev pub endOf : Tables → ℕ → Var → ℕ
 endOf t n v = lastEnd (isRecord (t .dims) v) (v .begin) (paddedBytes (t .dims) v) (recordSize t) n
 

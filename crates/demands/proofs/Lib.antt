@@ -1,0 +1,5 @@
+pub mod Determined
+pub mod Examples
+pub mod Numbers
+pub mod Versions
+pub mod RecordCount

@@ -1,0 +1,5 @@
+-- What is promised of the whole, one module for each demand or question. A statement is a type; proofs/ has a proof of it.
+pub mod Determined
+pub mod Examples
+pub mod Versions
+pub mod RecordCount

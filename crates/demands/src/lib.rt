@@ -1,0 +1,1 @@
+// Theorems alone: specs/ states each demand, proofs/ proves it.
