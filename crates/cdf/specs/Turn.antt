@@ -1,4 +1,4 @@
--- How the code reads four bytes: in the other order, and then turned round. Words of private contracts alone; nothing public cites them.
+-- How the code reads four bytes: in the other order, and then turned round. Words of inner contracts alone; no entry cites them.
 use Prim.Native.Nat.{ℕ, _+_, _*_, _/_, _%_}
 use mathlib.Core.List.{List}
 use lib.ListN.{getD}

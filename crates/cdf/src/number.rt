@@ -18,7 +18,8 @@ fn wide64(x: u32) -> u64
     x as u64
 }
 
-fn le32(s: &[u8], at: usize) -> u32
+// The four bytes from `at` in the other order, for a reader that turns them round by itself.
+pub fn le32(s: &[u8], at: usize) -> u32
     requires { ⌜ at + 4 ≤ length (now s) ⌝ }
     ensures { λ r. ⌜ r ≡ little (now (s .entry)) at ⌝ }
 {

@@ -1,0 +1,60 @@
+use borrow.Author.Needs.{needs}
+use Prim.Native.Nat.{_-_}
+use lib.ListN.{length}
+use Rattle.decode.specs.Values.{number, values}
+use Rattle.decode.proofs.Laws.Filled.{Filled, filled-none, filled-more, filled-all}
+use Rattle.decode.proofs.chunk.decode_u64.Statement.{statement}
+use Rattle.decode.proofs.chunk.decode_u64.Tie as tie
+
+abbrev Inv-loop : tie.InvT-loop
+Inv-loop src out₀ i₀ out i = Filled (values number 8 src) out₀ out i
+
+abbrev μ-loop : tie.MeasureT-loop
+μ-loop src out₀ i₀ out i = length out₀ - i
+
+loop-holds : tie.Need-loop-holds Inv-loop μ-loop
+loop-holds c = filled-none _ _
+
+mul-be64 : tie.Need-mul-be64 Inv-loop μ-loop
+mul-be64 c = search needs
+
+be64-requires : tie.Need-be64-requires Inv-loop μ-loop
+be64-requires c κs = search needs
+
+mul-out : tie.Need-mul-out Inv-loop μ-loop
+mul-out c = search needs
+
+slice-write-out : tie.Need-slice-write-out Inv-loop μ-loop
+slice-write-out c = search needs
+
+add-i : tie.Need-add-i Inv-loop μ-loop
+add-i c = search needs
+
+loop-less : tie.Need-loop-less Inv-loop μ-loop
+loop-less c = search needs
+
+loop-again : tie.Need-loop-again Inv-loop μ-loop
+loop-again c = filled-more _ _ _ (c .before .before .loop .inv) (c .before .loop-test .taken) (c .be64 .ensures)
+
+same-length : tie.Need-same-length Inv-loop μ-loop
+same-length c = search needs
+
+returns : tie.Need-returns Inv-loop μ-loop
+returns c = filled-all _ _ (c .before .loop .inv) (c .loop-test .left)
+
+pub decode-u64-spec : {M : Type 1} → statement M
+decode-u64-spec =
+    tie.close
+    (tie.spec
+    Inv-loop
+    μ-loop
+    loop-holds
+    mul-be64
+    be64-requires
+    mul-out
+    slice-write-out
+    add-i
+    loop-less
+    loop-again
+    same-length
+    returns)

@@ -1,0 +1,45 @@
+use Rattle.decode.proofs.Laws.Halves.{be-2}
+use denote.Ref.{now}
+use borrow.Author.Needs.{needs}
+use Rattle.decode.proofs.short.be16.Statement.{statement}
+use Rattle.decode.proofs.short.be16.Tie as tie
+
+shared-slice-read-wide16 : tie.Need-shared-slice-read-wide16
+shared-slice-read-wide16 c = search needs
+
+wide16-requires : tie.Need-wide16-requires
+wide16-requires c κs = search needs
+
+mul-result : tie.Need-mul-result
+mul-result c = search needs
+
+add-wide16 : tie.Need-add-wide16
+add-wide16 c = search needs
+
+shared-slice-read-wide16-2 : tie.Need-shared-slice-read-wide16-2
+shared-slice-read-wide16-2 c = search needs
+
+wide16-requires-2 : tie.Need-wide16-requires-2
+wide16-requires-2 c κs = search needs
+
+add-result : tie.Need-add-result
+add-result c = search needs
+
+returns : tie.Need-returns
+returns c =
+    let a = c .before .before .wide16 .ensures .0 in
+    let b = c .wide162 .ensures .0 in
+    cc (be-2 (now (c .before .before .before .before .before .args .s)) (c .before .before .before .before .before .args .at))
+
+pub be16-spec : {M : Type 1} → statement M
+be16-spec =
+    tie.close
+    (tie.spec
+    shared-slice-read-wide16
+    wide16-requires
+    mul-result
+    add-wide16
+    shared-slice-read-wide16-2
+    wide16-requires-2
+    add-result
+    returns)

@@ -1,0 +1,36 @@
+-- The values that bytes hold (01, Header grammar: "Types 1 to 6", Records; BNF: values, BYTE, CHAR, SHORT, INT, FLOAT, DOUBLE).
+use Prim.Native.Nat.{ℕ, _+_, _*_}
+use mathlib.Core.List.{List}
+use lib.IntN.{ℤ}
+use lib.Ieee.{Float, binary32, binary64, ofBits}
+use mir.Syntax.{w8, w16, w32}
+use mir.Val.{toZ}
+use Rattle.cdf.specs.Number.{be}
+
+-- the value of a type that a big-endian number stands for: two's complement for byte, short and int, IEEE 754 for float and double, where
+-- every NaN pattern is the one `nan`. A char is its number, and so are the bits of a float or a double
+abbrev pub byte : ℕ → ℤ
+byte b = toZ w8 b
+
+abbrev pub short : ℕ → ℤ
+short b = toZ w16 b
+
+abbrev pub int : ℕ → ℤ
+int b = toZ w32 b
+
+abbrev pub float : ℕ → Float
+float b = ofBits binary32 b
+
+abbrev pub double : ℕ → Float
+double b = ofBits binary64 b
+
+abbrev pub number : ℕ → ℕ
+number b = b
+
+-- value j of a chunk that starts where s does, of a type of w bytes whose number stands for the value F (BNF: values)
+abbrev pub values : {A : Type 0} → (ℕ → A) → ℕ → List ℕ → ℕ → A
+values F w s j = F (be w s (w * j))
+
+-- value j of record k, where record 0 starts where s does: "chunk of record r starts at begin + r × record size" (01, Records)
+abbrev pub rows : {A : Type 0} → (ℕ → A) → ℕ → List ℕ → ℕ → ℕ → ℕ → A
+rows F w s stride k j = F (be w s (k * stride + w * j))

@@ -1,0 +1,123 @@
+// A chunk: values that stand one after the other. Each loop counts by the output's length, and reads by a load and a swap in
+// functions of their own: so, and not otherwise, LLVM makes vectors of it.
+ghost use mathlib.Core.Path.{_≡_};
+ghost use Prim.Native.Nat.{_*_};
+ghost use lib.ListN.{length};
+ghost use Rattle.decode.specs.Lists.{tab};
+ghost use Rattle.decode.specs.Values.{byte, short, int, float, double, number, values};
+use crate::pattern::f32_of;
+use crate::pattern::f64_of;
+use crate::pattern::i8_of;
+use crate::pattern::i16_of;
+use crate::pattern::i32_of;
+use crate::short::be16;
+use crate::short::low16;
+use crate::short::swap16;
+use cdf::number::be32;
+use cdf::number::be64;
+use cdf::number::le32;
+
+// Bytes.
+pub fn decode_i8(src: &[u8], out: &mut [i8])
+    requires { ⌜ length (now src) ≡ length (now out) ⌝ }
+    ensures { λ _. ⌜ now (out .exit) ≡ tab (values byte 1 (now (src .entry))) (length (now (out .entry))) ⌝ }
+{
+    let mut i = 0;
+    while i < out.len() {
+        out[i] = i8_of(src[i]);
+        i += 1;
+    }
+}
+
+// Chars.
+pub fn decode_u8(src: &[u8], out: &mut [u8])
+    requires { ⌜ length (now src) ≡ length (now out) ⌝ }
+    ensures { λ _. ⌜ now (out .exit) ≡ tab (values number 1 (now (src .entry))) (length (now (out .entry))) ⌝ }
+{
+    let mut i = 0;
+    while i < out.len() {
+        out[i] = src[i];
+        i += 1;
+    }
+}
+
+// Shorts, two a turn out of one word, since LLVM joins two bytes into one load on x86 alone; then the odd last one.
+pub fn decode_i16(src: &[u8], out: &mut [i16])
+    requires { ⌜ length (now src) ≡ 2 * length (now out) ⌝ }
+    ensures { λ _. ⌜ now (out .exit) ≡ tab (values short 2 (now (src .entry))) (length (now (out .entry))) ⌝ }
+{
+    let n = out.len();
+    let h = n / 2;
+    let mut j = 0;
+    while j < h {
+        let x = le32(src, 4 * j);
+        let q = 2 * j;
+        out[q] = i16_of(swap16(low16(x)));
+        out[q + 1] = i16_of(swap16(low16(x / 65536)));
+        j += 1;
+    }
+    if n % 2 == 1 {
+        let i = n - 1;
+        out[i] = i16_of(be16(src, 2 * i));
+    }
+}
+
+// Ints.
+pub fn decode_i32(src: &[u8], out: &mut [i32])
+    requires { ⌜ length (now src) ≡ 4 * length (now out) ⌝ }
+    ensures { λ _. ⌜ now (out .exit) ≡ tab (values int 4 (now (src .entry))) (length (now (out .entry))) ⌝ }
+{
+    let mut i = 0;
+    while i < out.len() {
+        out[i] = i32_of(be32(src, 4 * i));
+        i += 1;
+    }
+}
+
+// Floats by value.
+pub fn decode_f32(src: &[u8], out: &mut [f32])
+    requires { ⌜ length (now src) ≡ 4 * length (now out) ⌝ }
+    ensures { λ _. ⌜ now (out .exit) ≡ tab (values float 4 (now (src .entry))) (length (now (out .entry))) ⌝ }
+{
+    let mut i = 0;
+    while i < out.len() {
+        out[i] = f32_of(be32(src, 4 * i));
+        i += 1;
+    }
+}
+
+// Doubles by value.
+pub fn decode_f64(src: &[u8], out: &mut [f64])
+    requires { ⌜ length (now src) ≡ 8 * length (now out) ⌝ }
+    ensures { λ _. ⌜ now (out .exit) ≡ tab (values double 8 (now (src .entry))) (length (now (out .entry))) ⌝ }
+{
+    let mut i = 0;
+    while i < out.len() {
+        out[i] = f64_of(be64(src, 8 * i));
+        i += 1;
+    }
+}
+
+// Floats by their bits: a NaN keeps its payload, and a host reads the same memory as floats.
+pub fn decode_u32(src: &[u8], out: &mut [u32])
+    requires { ⌜ length (now src) ≡ 4 * length (now out) ⌝ }
+    ensures { λ _. ⌜ now (out .exit) ≡ tab (values number 4 (now (src .entry))) (length (now (out .entry))) ⌝ }
+{
+    let mut i = 0;
+    while i < out.len() {
+        out[i] = be32(src, 4 * i);
+        i += 1;
+    }
+}
+
+// Doubles by their bits.
+pub fn decode_u64(src: &[u8], out: &mut [u64])
+    requires { ⌜ length (now src) ≡ 8 * length (now out) ⌝ }
+    ensures { λ _. ⌜ now (out .exit) ≡ tab (values number 8 (now (src .entry))) (length (now (out .entry))) ⌝ }
+{
+    let mut i = 0;
+    while i < out.len() {
+        out[i] = be64(src, 8 * i);
+        i += 1;
+    }
+}

@@ -1,0 +1,3 @@
+-- What the exported functions answer.
+pub mod Decoded
+pub mod Numbers
