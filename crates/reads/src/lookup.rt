@@ -4,7 +4,8 @@ ghost use Prim.Native.Nat.{_+_, _≤_};
 ghost use lib.ListN.{length};
 ghost use Rattle.grammar.specs.Tables.{varAt};
 ghost use Rattle.reads.specs.Lookup.{namesInside, sameBytes, firstNamed, findVar, nameAnswer, varName};
-use grammar::tables::{Tables, Var};
+use grammar::tables::Tables;
+use grammar::tables::Var;
 
 pub enum Found {
     At(usize),

@@ -58,7 +58,7 @@ part-result-end-2 c = let a = c .before .before .before .before .before .args in
 
 -- src/lookup.rt:88:1
 returns-2 : tie.Need-returns-2
-returns-2 c = 
+returns-2 c =
     let a = c .before .before .before .before .before .before .args in
     let v = varAt (a .t2) (a .i) in
     let e : v .name + v .chars - v .name ≡ v .chars = omega arith in
