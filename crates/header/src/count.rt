@@ -35,10 +35,11 @@ fn first_begin(t: Tables) -> u64
     ensures { λ r. ⌜ r ≡ firstBegin t ⌝ }
 {
     let dims = t.dims;
+    let vars = t.vars;
     let mut least = MAX_POSITION;
     let mut i = 0;
     while i < t.nvars {
-        let v = t.vars[i];
+        let v = vars[i];
         least = nearer(is_record(dims, v), least, v.begin);
         i += 1;
     }

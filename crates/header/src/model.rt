@@ -25,9 +25,10 @@ fn names_hold(s: &[u8], t: Tables) -> bool
     if !attr_names_hold(s, t, 0, globals) {
         return false;
     }
+    let vars = t.vars;
     let mut i = 0;
     while i < t.nvars {
-        let v = t.vars[i];
+        let v = vars[i];
         let first = v.first;
         let n = v.attrs;
         if !attr_names_hold(s, t, first, n) {
@@ -43,9 +44,10 @@ pub fn unlimited(t: Tables) -> usize
     requires { ⌜ t .ndims ≤ 32 ⌝ }
     ensures { λ r. ⌜ r ≡ unlimited t ⌝ }
 {
+    let dims = t.dims;
     let mut i = 0;
     while i < t.ndims {
-        let d = t.dims[i];
+        let d = dims[i];
         if d.length == 0 {
             return i;
         }
@@ -59,9 +61,10 @@ fn one_unlimited(t: Tables) -> bool
     ensures { λ r. ⌜ r ≡ oneUnlimited t ⌝ }
 {
     let only = unlimited(t);
+    let dims = t.dims;
     let mut i = 0;
     while i < t.ndims {
-        let d = t.dims[i];
+        let d = dims[i];
         if d.length == 0 {
             if i != only {
                 return false;
@@ -84,16 +87,18 @@ fn ids_hold(t: Tables) -> bool
     requires { ⌜ Within t ⌝ }
     ensures { λ r. ⌜ r ≡ idsHold t ⌝ }
 {
+    let dims = t.dims;
+    let vars = t.vars;
     let mut i = 0;
     while i < t.nvars {
-        let v = t.vars[i];
+        let v = vars[i];
         let mut k = 0;
         while k < v.rank {
             let id = index(v.ids[k]);
             if t.ndims <= id {
                 return false;
             }
-            let d = t.dims[id];
+            let d = dims[id];
             if 0 < k {
                 if d.length == 0 {
                     return false;

@@ -1,4 +1,5 @@
-// Names of one list: none empty, none twice.
+// Names of one list: none empty, none twice. The rows are taken out of the tables first: where an
+// index into the tables themselves is not known beforehand, all of them are copied.
 ghost use mathlib.Core.Path.{_≡_};
 ghost use mathlib.Core.Bool.{_&&_};
 ghost use Prim.Native.Nat.{_+_, _≤_, _<_};
@@ -48,15 +49,16 @@ pub fn dim_names_hold(s: &[u8], t: Tables) -> bool
     requires { ⌜ t .ndims ≤ 32 ⌝ }
     ensures { λ r. ⌜ r ≡ distinct (now (s .entry)) (dimNames t) (t .ndims) ⌝ }
 {
+    let rows = t.dims;
     let mut i = 0;
     while i < t.ndims {
-        let a = t.dims[i];
+        let a = rows[i];
         if a.chars == 0 {
             return false;
         }
         let mut j = 0;
         while j < i {
-            let b = t.dims[j];
+            let b = rows[j];
             if same_name(s, b.name, b.chars, a.name, a.chars) {
                 return false;
             }
@@ -72,15 +74,16 @@ pub fn var_names_hold(s: &[u8], t: Tables) -> bool
     requires { ⌜ t .nvars ≤ 64 ⌝ }
     ensures { λ r. ⌜ r ≡ distinct (now (s .entry)) (varNames t) (t .nvars) ⌝ }
 {
+    let rows = t.vars;
     let mut i = 0;
     while i < t.nvars {
-        let a = t.vars[i];
+        let a = rows[i];
         if a.chars == 0 {
             return false;
         }
         let mut j = 0;
         while j < i {
-            let b = t.vars[j];
+            let b = rows[j];
             if same_name(s, b.name, b.chars, a.name, a.chars) {
                 return false;
             }
@@ -96,15 +99,16 @@ pub fn attr_names_hold(s: &[u8], t: Tables, first: usize, n: usize) -> bool
     requires { ⌜ first + n ≤ 128 ⌝ }
     ensures { λ r. ⌜ r ≡ distinct (now (s .entry)) (attrNames t first) n ⌝ }
 {
+    let rows = t.attrs;
     let mut i = 0;
     while i < n {
-        let a = t.attrs[first + i];
+        let a = rows[first + i];
         if a.chars == 0 {
             return false;
         }
         let mut j = 0;
         while j < i {
-            let b = t.attrs[first + j];
+            let b = rows[first + j];
             if same_name(s, b.name, b.chars, a.name, a.chars) {
                 return false;
             }

@@ -106,10 +106,11 @@ pub fn measure(t: Tables) -> Sizes
         step: 0,
     };
     let dims = t.dims;
+    let vars = t.vars;
     let mut step = 0;
     let mut i = 0;
     while i < t.nvars {
-        let v = t.vars[i];
+        let v = vars[i];
         if MAX_POSITION < v.begin {
             return broken;
         }
@@ -160,9 +161,10 @@ pub fn ends_hold(t: Tables, step: u64, n: u64) -> bool
     ensures { λ r. ⌜ r ≡ endsHold t n ⌝ }
 {
     let dims = t.dims;
+    let vars = t.vars;
     let mut i = 0;
     while i < t.nvars {
-        let v = t.vars[i];
+        let v = vars[i];
         let bytes = chunk_bytes(dims, v);
         let padded = bytes + compute_padding_size(bytes);
         if !end_holds(is_record(dims, v), v.begin, padded, step, n) {

@@ -1,12 +1,12 @@
-use Rattle.header.specs.Records.{isRecord}
-use borrow.Author.Needs.{needs}
-use Rattle.header.proofs.Laws.Count as laws
-use Rattle.header.proofs.Laws.Records.{ids-below}
-use Rattle.grammar.specs.Tables.{varAt}
-use mathlib.Core.Bool.{Bool, cond}
-use mathlib.Core.Path.{_≡_, refl, sym, ap, _∙_}
-use native.Mathlib.Omega.{arith}
 use Prim.Native.Nat.{ℕ, _-_, _≤_, _<_, min}
+use native.Mathlib.Omega.{arith}
+use mathlib.Core.Path.{_≡_, refl, sym, ap, _∙_}
+use mathlib.Core.Bool.{Bool, cond}
+use Rattle.grammar.specs.Tables.{varAt}
+use Rattle.header.proofs.Laws.Records.{ids-below}
+use Rattle.header.proofs.Laws.Count as laws
+use borrow.Author.Needs.{needs}
+use Rattle.header.specs.Records.{isRecord}
 use Rattle.header.proofs.count.first_begin.Statement.{statement}
 use Rattle.header.proofs.count.first_begin.Tie as tie
 use Rattle.header.proofs.count.first_begin.Reads as reads
@@ -15,44 +15,44 @@ use Rattle.header.proofs.count.nearer.Reads as nearer-reads
 use Rattle.header.proofs.records.is_record.Reads as is-record-reads
 
 abbrev Inv-loop : tie.InvT-loop
-Inv-loop t dims least₀ i₀ least i = (i ≤ t .nvars) × (least ≡ laws.least t i)
+Inv-loop t dims vars least₀ i₀ least i = (i ≤ t .nvars) × (least ≡ laws.least t i)
 
 abbrev μ-loop : tie.MeasureT-loop
-μ-loop t dims least₀ i₀ least i = t .nvars - i
+μ-loop t dims vars least₀ i₀ least i = t .nvars - i
 
--- src/count.rt:37:5
+-- src/count.rt:41:5
 loop-holds : tie.Need-loop-holds Inv-loop μ-loop
 loop-holds c = (omega arith, laws.least-none _)
 
--- src/count.rt:38:17
+-- src/count.rt:42:17
 mul-v : tie.Need-mul-v Inv-loop μ-loop
 mul-v c = search needs
 
--- src/count.rt:38:17
-element-copy-out-v : tie.Need-element-copy-out-v Inv-loop μ-loop
-element-copy-out-v c = search needs
+-- src/count.rt:42:17
+array-copy-out-v : tie.Need-array-copy-out-v Inv-loop μ-loop
+array-copy-out-v c = search needs
 
--- src/count.rt:39:24
+-- src/count.rt:43:24
 is-record-requires : tie.Need-is-record-requires Inv-loop μ-loop
-is-record-requires c κs = let p = c .before .before .before .before .pre in let r = p .0 .rows _ (c .before .loop-test .taken) in (r .rank, ids-below _ (p .1) _ (c .before .loop-test .taken) (p .0 .dims))
+is-record-requires c κs = let p = c .before .before .before .before .before .before .pre in let r = p .0 .rows _ (c .before .if1 .taken) in (r .rank, ids-below _ (p .1) _ (c .before .if1 .taken) (p .0 .dims))
 
--- src/count.rt:39:9
+-- src/count.rt:43:9
 nearer-requires : tie.Need-nearer-requires Inv-loop μ-loop
 nearer-requires c κs = search needs
 
--- src/count.rt:40:9
+-- src/count.rt:44:9
 add-i : tie.Need-add-i Inv-loop μ-loop
 add-i c = search needs
 
--- src/count.rt:37:5
+-- src/count.rt:41:5
 loop-less : tie.Need-loop-less Inv-loop μ-loop
 loop-less c = search needs
 
--- src/count.rt:37:5
+-- src/count.rt:41:5
 loop-again : tie.Need-loop-again Inv-loop μ-loop
 loop-again c =
-    let t = c .before .before .before .before .before .before .args .t1 in
-    let l = c .before .before .before .before .loop in (
+    let t = c .before .before .before .before .before .before .before .before .args .t in
+    let l = c .before .before .before .before .before .loop in (
       omega arith,
       c .nearer .ensures
           ∙ ap (λ (b : Bool). cond b (min (l .least) (varAt t (l .i) .begin)) (l .least)) (c .before .is-record .ensures)
@@ -60,9 +60,9 @@ loop-again c =
           ∙ laws.least-more t (l .i),
     )
 
--- src/count.rt:30:1
+-- src/count.rt:33:1
 returns : tie.Need-returns Inv-loop μ-loop
-returns c = let l = c .before .loop in let t = c .before .before .before .args .t1 in let e : l .i ≡ t .nvars = omega arith in l .inv .1 ∙ ap (laws.least t) e ∙ laws.least-all t
+returns c = let l = c .before .before .loop in let t = c .before .before .before .before .before .args .t in let e : l .i ≡ t .nvars = omega arith in l .inv .1 ∙ ap (laws.least t) e ∙ laws.least-all t
 
 pub first-begin-spec : {M : Type 1} → statement M
 first-begin-spec =
@@ -72,7 +72,7 @@ first-begin-spec =
     μ-loop
     loop-holds
     mul-v
-    element-copy-out-v
+    array-copy-out-v
     is-record-requires
     nearer-requires
     add-i

@@ -1,14 +1,14 @@
-use borrow.Author.Needs.{needs}
-use Rattle.header.proofs.Laws.Model.{id-first, id-fixed, id-large, id-later, row-ids, ids-all, ids-not}
-use Rattle.grammar.specs.Tables.{dimAt, varAt}
-use Rattle.header.specs.Model.{idHolds}
-use Rattle.cdf.specs.Below.{allBelow}
-use borrow.Author.Count.{below-none, below-more}
-use mathlib.Core.Logic.{⊎-elim}
-use mathlib.Core.Bool.{true}
-use mathlib.Core.Path.{_≡_, refl, sym, ap, _∙_}
-use native.Mathlib.Omega.{arith}
 use Prim.Native.Nat.{ℕ, _-_, _≤_, _<_}
+use native.Mathlib.Omega.{arith}
+use mathlib.Core.Path.{_≡_, refl, sym, ap, _∙_}
+use mathlib.Core.Bool.{true}
+use mathlib.Core.Logic.{⊎-elim}
+use borrow.Author.Count.{below-none, below-more}
+use Rattle.cdf.specs.Below.{allBelow}
+use Rattle.header.specs.Model.{idHolds}
+use Rattle.grammar.specs.Tables.{dimAt, varAt}
+use Rattle.header.proofs.Laws.Model.{id-first, id-fixed, id-large, id-later, row-ids, ids-all, ids-not}
+use borrow.Author.Needs.{needs}
 use Rattle.header.proofs.model.ids_hold.Statement.{statement}
 use Rattle.header.proofs.model.ids_hold.Tie as tie
 use Rattle.header.proofs.model.ids_hold.Reads as reads
@@ -16,100 +16,100 @@ use Rattle.header.proofs.model.ids_hold.Lts as lts
 use Rattle.header.proofs.model.index.Reads as index-reads
 
 abbrev Inv-loop2 : tie.InvT-loop2
-Inv-loop2 t i v k₀ k = (k ≤ v .rank) × (v .rank ≤ 8) × ((j : ℕ) → j < k → idHolds t v j ≡ true)
+Inv-loop2 t dims vars i v k₀ k = (k ≤ v .rank) × (v .rank ≤ 8) × ((j : ℕ) → j < k → idHolds t v j ≡ true)
 
 abbrev μ-loop2 : tie.MeasureT-loop2
-μ-loop2 t i v k₀ k = v .rank - k
+μ-loop2 t dims vars i v k₀ k = v .rank - k
 
 abbrev Inv-loop : tie.InvT-loop
-Inv-loop t i₀ i = (i ≤ t .nvars) × ((j : ℕ) → j < i → allBelow (varAt t j .rank) (idHolds t (varAt t j)) ≡ true)
+Inv-loop t dims vars i₀ i = (i ≤ t .nvars) × ((j : ℕ) → j < i → allBelow (varAt t j .rank) (idHolds t (varAt t j)) ≡ true)
 
 abbrev μ-loop : tie.MeasureT-loop
-μ-loop t i₀ i = t .nvars - i
+μ-loop t dims vars i₀ i = t .nvars - i
 
--- src/model.rt:83:5
+-- src/model.rt:93:5
 loop-holds : tie.Need-loop-holds Inv-loop2 μ-loop2 Inv-loop μ-loop
 loop-holds c = (omega arith, below-none _)
 
--- src/model.rt:84:17
+-- src/model.rt:94:17
 mul-v : tie.Need-mul-v Inv-loop2 μ-loop2 Inv-loop μ-loop
 mul-v c = search needs
 
--- src/model.rt:84:17
-element-copy-out-v : tie.Need-element-copy-out-v Inv-loop2 μ-loop2 Inv-loop μ-loop
-element-copy-out-v c = search needs
+-- src/model.rt:94:17
+array-copy-out-v : tie.Need-array-copy-out-v Inv-loop2 μ-loop2 Inv-loop μ-loop
+array-copy-out-v c = search needs
 
--- src/model.rt:86:9
+-- src/model.rt:96:9
 loop2-holds : tie.Need-loop2-holds Inv-loop2 μ-loop2 Inv-loop μ-loop
-loop2-holds c = (omega arith, c .before .before .before .pre .rows _ (c .before .loop-test .taken) .rank, below-none _)
+loop2-holds c = (omega arith, c .before .before .before .before .before .before .pre .rows _ (c .before .if1 .taken) .rank, below-none _)
 
--- src/model.rt:87:28
+-- src/model.rt:97:28
 mul-index : tie.Need-mul-index Inv-loop2 μ-loop2 Inv-loop μ-loop
 mul-index c = search needs
 
--- src/model.rt:87:28
+-- src/model.rt:97:28
 element-copy-out-index : tie.Need-element-copy-out-index Inv-loop2 μ-loop2 Inv-loop μ-loop
 element-copy-out-index c = search needs
 
--- src/model.rt:87:17
+-- src/model.rt:97:17
 index-requires : tie.Need-index-requires Inv-loop2 μ-loop2 Inv-loop μ-loop
 index-requires c κs = search needs
 
--- src/model.rt:89:17
+-- src/model.rt:99:17
 returns : tie.Need-returns Inv-loop2 μ-loop2 Inv-loop μ-loop
-returns c = ids-not _ _ _ (c .before .before .before .before .before .before .loop-test .taken) (c .before .before .before .loop2-test .taken) (id-large _ _ _ (omega (arith, c .before .index .ensures)))
+returns c = ids-not _ _ _ (c .before .before .before .before .before .before .before .if1 .taken) (c .before .before .before .before .loop2-test .taken) (id-large _ _ _ (omega (arith, c .before .before .index .ensures)))
 
--- src/model.rt:91:21
+-- src/model.rt:101:21
 mul-d : tie.Need-mul-d Inv-loop2 μ-loop2 Inv-loop μ-loop
 mul-d c = search needs
 
--- src/model.rt:91:21
-element-copy-out-d : tie.Need-element-copy-out-d Inv-loop2 μ-loop2 Inv-loop μ-loop
-element-copy-out-d c = search needs
+-- src/model.rt:101:21
+array-copy-out-d : tie.Need-array-copy-out-d Inv-loop2 μ-loop2 Inv-loop μ-loop
+array-copy-out-d c = search needs
 
--- src/model.rt:94:21
+-- src/model.rt:104:21
 returns-2 : tie.Need-returns-2 Inv-loop2 μ-loop2 Inv-loop μ-loop
-returns-2 c = let t = c .before .before .before .before .before .before .before .before .before .before .before .before .args .t1 in ids-not _ _ _ (c .before .before .before .before .before .before .before .before .before .before .loop-test .taken) (c .before .before .before .before .before .before .before .loop2-test .taken) (id-later _ _ _ (omega (arith, c .before .before .before .before .before .index .ensures)) (c .before .before .if2 .taken) (ap (λ (n : ℕ). dimAt t n .length) (sym (c .before .before .before .before .before .index .ensures)) ∙ c .if3 .taken))
+returns-2 c = let t = c .before .before .before .before .before .before .before .before .before .before .before .before .before .before .before .before .args .t in ids-not _ _ _ (c .before .before .before .before .before .before .before .before .before .before .before .if1 .taken) (c .before .before .before .before .before .before .before .before .loop2-test .taken) (id-later _ _ _ (omega (arith, c .before .before .before .before .before .before .index .ensures)) (c .before .before .if3 .taken) (ap (λ (n : ℕ). dimAt t n .length) (sym (c .before .before .before .before .before .before .index .ensures)) ∙ c .if4 .taken))
 
--- src/model.rt:97:13
+-- src/model.rt:107:13
 add-k : tie.Need-add-k Inv-loop2 μ-loop2 Inv-loop μ-loop
 add-k c = search needs
 
--- src/model.rt:86:9
+-- src/model.rt:96:9
 loop2-less : tie.Need-loop2-less Inv-loop2 μ-loop2 Inv-loop μ-loop
 loop2-less c = search needs
 
--- src/model.rt:86:9
+-- src/model.rt:96:9
 loop2-again : tie.Need-loop2-again Inv-loop2 μ-loop2 Inv-loop μ-loop
 loop2-again c =
-    let t = c .before .before .before .before .before .before .before .before .before .before .args .t1 in
-    let l = c .before .before .before .before .before .before .loop2 in
-    let v = varAt t (c .before .before .before .before .before .before .before .before .before .loop .i) in
-    let e = c .before .before .before .index .ensures in (
+    let t = c .before .before .before .before .before .before .before .before .before .before .before .before .before .before .args .t in
+    let l = c .before .before .before .before .before .before .before .loop2 in
+    let v = varAt t (c .before .before .before .before .before .before .before .before .before .before .before .loop .i) in
+    let e = c .before .before .before .before .index .ensures in (
       omega arith,
       l .inv .1,
       below-more _ _ (l .inv .2)
           (⊎-elim
           (λ w. id-fixed t v (l .k) (omega (arith, e)) (λ z. w .2 .left (ap (λ (n : ℕ). dimAt t n .length) e ∙ z)))
           (λ w. id-first t v (l .k) (omega (arith, e)) (omega arith))
-          (c .if2 .came)),
+          (c .if3 .came)),
     )
 
--- src/model.rt:99:9
+-- src/model.rt:109:9
 add-i : tie.Need-add-i Inv-loop2 μ-loop2 Inv-loop μ-loop
 add-i c = search needs
 
--- src/model.rt:83:5
+-- src/model.rt:93:5
 loop-less : tie.Need-loop-less Inv-loop2 μ-loop2 Inv-loop μ-loop
 loop-less c = search needs
 
--- src/model.rt:83:5
+-- src/model.rt:93:5
 loop-again : tie.Need-loop-again Inv-loop2 μ-loop2 Inv-loop μ-loop
-loop-again c = (omega arith, below-more _ _ (c .before .before .before .before .loop .inv .1) (row-ids _ _ (λ j l. c .before .loop2 .inv .2 j (omega arith))))
+loop-again c = (omega arith, below-more _ _ (c .before .before .before .before .before .loop .inv .1) (row-ids _ _ (λ j l. c .before .loop2 .inv .2 j (omega arith))))
 
--- src/model.rt:78:1
+-- src/model.rt:86:1
 returns-3 : tie.Need-returns-3 Inv-loop2 μ-loop2 Inv-loop μ-loop
-returns-3 c = ids-all _ (λ j l. c .before .loop .inv .1 j (omega arith))
+returns-3 c = ids-all _ (λ j l. c .before .before .loop .inv .1 j (omega arith))
 
 pub ids-hold-spec : {M : Type 1} → statement M
 ids-hold-spec =
@@ -121,14 +121,14 @@ ids-hold-spec =
     μ-loop
     loop-holds
     mul-v
-    element-copy-out-v
+    array-copy-out-v
     loop2-holds
     mul-index
     element-copy-out-index
     index-requires
     returns
     mul-d
-    element-copy-out-d
+    array-copy-out-d
     returns-2
     add-k
     loop2-less

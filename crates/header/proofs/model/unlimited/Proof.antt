@@ -1,52 +1,52 @@
-use borrow.Author.Needs.{needs}
-use Rattle.header.proofs.Laws.Model.{unlimited-none, unlimited-is}
-use Rattle.grammar.specs.Tables.{dimAt}
-use borrow.Author.Count.{below-none, below-more}
-use mathlib.Core.Path.{_≡_, _∙_}
-use native.Mathlib.Omega.{arith}
 use Prim.Native.Nat.{ℕ, _-_, _≤_, _<_}
+use native.Mathlib.Omega.{arith}
+use mathlib.Core.Path.{_≡_, _∙_}
+use borrow.Author.Count.{below-none, below-more}
+use Rattle.grammar.specs.Tables.{dimAt}
+use Rattle.header.proofs.Laws.Model.{unlimited-none, unlimited-is}
+use borrow.Author.Needs.{needs}
 use Rattle.header.proofs.model.unlimited.Statement.{statement}
 use Rattle.header.proofs.model.unlimited.Tie as tie
 use Rattle.header.proofs.model.unlimited.Reads as reads
 use Rattle.header.proofs.model.unlimited.Lts as lts
 
 abbrev Inv-loop : tie.InvT-loop
-Inv-loop t i₀ i = (i ≤ t .ndims) × ((k : ℕ) → k < i → dimAt t k .length ≡ 0 → ⊥)
+Inv-loop t dims i₀ i = (i ≤ t .ndims) × ((k : ℕ) → k < i → dimAt t k .length ≡ 0 → ⊥)
 
 abbrev μ-loop : tie.MeasureT-loop
-μ-loop t i₀ i = t .ndims - i
+μ-loop t dims i₀ i = t .ndims - i
 
--- src/model.rt:42:5
+-- src/model.rt:49:5
 loop-holds : tie.Need-loop-holds Inv-loop μ-loop
 loop-holds c = (omega arith, below-none _)
 
--- src/model.rt:43:17
+-- src/model.rt:50:17
 mul-d : tie.Need-mul-d Inv-loop μ-loop
 mul-d c = search needs
 
--- src/model.rt:43:17
-element-copy-out-d : tie.Need-element-copy-out-d Inv-loop μ-loop
-element-copy-out-d c = search needs
+-- src/model.rt:50:17
+array-copy-out-d : tie.Need-array-copy-out-d Inv-loop μ-loop
+array-copy-out-d c = search needs
 
--- src/model.rt:45:13
+-- src/model.rt:52:13
 returns : tie.Need-returns Inv-loop μ-loop
-returns c = unlimited-is _ _ (c .before .before .before .loop-test .taken) (c .before .before .before .before .loop .inv .1) (c .if1 .taken)
+returns c = unlimited-is _ _ (c .before .before .before .if1 .taken) (c .before .before .before .before .before .loop .inv .1) (c .if2 .taken)
 
--- src/model.rt:47:9
+-- src/model.rt:54:9
 add-i : tie.Need-add-i Inv-loop μ-loop
 add-i c = search needs
 
--- src/model.rt:42:5
+-- src/model.rt:49:5
 loop-less : tie.Need-loop-less Inv-loop μ-loop
 loop-less c = search needs
 
--- src/model.rt:42:5
+-- src/model.rt:49:5
 loop-again : tie.Need-loop-again Inv-loop μ-loop
-loop-again c = (omega arith, below-more _ _ (c .before .before .before .before .loop .inv .1) (c .if1 .left))
+loop-again c = (omega arith, below-more _ _ (c .before .before .before .before .before .loop .inv .1) (c .if2 .left))
 
--- src/model.rt:37:1
+-- src/model.rt:43:1
 returns-2 : tie.Need-returns-2 Inv-loop μ-loop
-returns-2 c = let l = c .before .loop in let e : l .i ≡ c .before .before .args .t1 .ndims = omega arith in e ∙ unlimited-none _ (λ k h. l .inv .1 k (omega arith))
+returns-2 c = let l = c .before .before .loop in let e : l .i ≡ c .before .before .before .before .args .t .ndims = omega arith in e ∙ unlimited-none _ (λ k h. l .inv .1 k (omega arith))
 
 pub unlimited-spec : {M : Type 1} → statement M
 unlimited-spec =
@@ -56,7 +56,7 @@ unlimited-spec =
     μ-loop
     loop-holds
     mul-d
-    element-copy-out-d
+    array-copy-out-d
     returns
     add-i
     loop-less

@@ -1,98 +1,106 @@
-use borrow.Author.Needs.{needs}
-use Rattle.header.proofs.Laws.Model.{new-if, distinct-all, distinct-empty, distinct-twice}
-use Rattle.header.specs.Model.{sameName, isNew, attrNames}
-use borrow.Author.Count.{below-none, below-more}
-use mathlib.Core.Bool.{true, false}
-use mathlib.Core.Path.{_≡_, sym, _∙_}
-use native.Mathlib.Omega.{arith}
+use mathlib.Core.List.{List}
+use lib.ListN.{getD}
+use Rattle.grammar.specs.Tables.{noAttr}
+use Rattle.grammar.specs.declared.tables.Attr.{Attr}
 use Prim.Native.Nat.{ℕ, _+_, _-_, _≤_, _<_}
+use native.Mathlib.Omega.{arith}
+use mathlib.Core.Path.{_≡_, sym, _∙_}
+use mathlib.Core.Bool.{true, false}
+use borrow.Author.Count.{below-none, below-more}
+use Rattle.header.specs.Model.{Span, sameName, isNew}
+use Rattle.header.proofs.Laws.Model.{new-if, distinct-all, distinct-empty, distinct-twice}
+use borrow.Author.Needs.{needs}
 use Rattle.header.proofs.names.attr_names_hold.Statement.{statement}
 use Rattle.header.proofs.names.attr_names_hold.Tie as tie
 use Rattle.header.proofs.names.attr_names_hold.Reads as reads
 use Rattle.header.proofs.names.attr_names_hold.Lts as lts
 use Rattle.header.proofs.names.same_name.Reads as same-name-reads
 
+-- the names of the attributes from `first` on, by their rows
+abbrev spans : List Attr → ℕ → ℕ → Span
+spans rows first i = record { at = getD rows (first + i) noAttr .name; chars = getD rows (first + i) noAttr .chars }
+
 abbrev Inv-loop2 : tie.InvT-loop2
-Inv-loop2 s first n t i a j₀ j = (j ≤ i) × ((k : ℕ) → k < j → sameName s (attrNames t first k) (attrNames t first i) ≡ false)
+Inv-loop2 s first n rows i a j₀ j = (j ≤ i) × ((k : ℕ) → k < j → sameName s (spans rows first k) (spans rows first i) ≡ false)
 
 abbrev μ-loop2 : tie.MeasureT-loop2
-μ-loop2 s first n t i a j₀ j = i - j
+μ-loop2 s first n rows i a j₀ j = i - j
 
 abbrev Inv-loop : tie.InvT-loop
-Inv-loop s first n t i₀ i = (i ≤ n) × ((k : ℕ) → k < i → isNew s (attrNames t first) k ≡ true)
+Inv-loop s first n rows i₀ i = (i ≤ n) × ((k : ℕ) → k < i → isNew s (spans rows first) k ≡ true)
 
 abbrev μ-loop : tie.MeasureT-loop
-μ-loop s first n t i₀ i = n - i
+μ-loop s first n rows i₀ i = n - i
 
--- src/names.rt:97:5
+-- src/names.rt:104:5
 loop-holds : tie.Need-loop-holds Inv-loop2 μ-loop2 Inv-loop μ-loop
 loop-holds c = (omega arith, below-none _)
 
--- src/names.rt:98:25
+-- src/names.rt:105:22
 add-a : tie.Need-add-a Inv-loop2 μ-loop2 Inv-loop μ-loop
 add-a c = search needs
 
--- src/names.rt:98:17
+-- src/names.rt:105:17
 mul-a : tie.Need-mul-a Inv-loop2 μ-loop2 Inv-loop μ-loop
 mul-a c = search needs
 
--- src/names.rt:98:17
-element-copy-out-a : tie.Need-element-copy-out-a Inv-loop2 μ-loop2 Inv-loop μ-loop
-element-copy-out-a c = search needs
+-- src/names.rt:105:17
+array-copy-out-a : tie.Need-array-copy-out-a Inv-loop2 μ-loop2 Inv-loop μ-loop
+array-copy-out-a c = search needs
 
--- src/names.rt:100:13
+-- src/names.rt:107:13
 returns : tie.Need-returns Inv-loop2 μ-loop2 Inv-loop μ-loop
 returns c = distinct-empty _ _ _ _ (c .before .before .before .loop-test .taken) (c .if1 .taken)
 
--- src/names.rt:103:9
+-- src/names.rt:110:9
 loop2-holds : tie.Need-loop2-holds Inv-loop2 μ-loop2 Inv-loop μ-loop
 loop2-holds c = (omega arith, below-none _)
 
--- src/names.rt:104:29
+-- src/names.rt:111:26
 add-b : tie.Need-add-b Inv-loop2 μ-loop2 Inv-loop μ-loop
 add-b c = search needs
 
--- src/names.rt:104:21
+-- src/names.rt:111:21
 mul-b : tie.Need-mul-b Inv-loop2 μ-loop2 Inv-loop μ-loop
 mul-b c = search needs
 
--- src/names.rt:104:21
-element-copy-out-b : tie.Need-element-copy-out-b Inv-loop2 μ-loop2 Inv-loop μ-loop
-element-copy-out-b c = search needs
+-- src/names.rt:111:21
+array-copy-out-b : tie.Need-array-copy-out-b Inv-loop2 μ-loop2 Inv-loop μ-loop
+array-copy-out-b c = search needs
 
--- src/names.rt:105:16
+-- src/names.rt:112:16
 same-name-requires : tie.Need-same-name-requires Inv-loop2 μ-loop2 Inv-loop μ-loop
 same-name-requires c κs = search needs
 
--- src/names.rt:106:17
+-- src/names.rt:113:17
 returns-2 : tie.Need-returns-2 Inv-loop2 μ-loop2 Inv-loop μ-loop
 returns-2 c = distinct-twice _ _ _ _ _ (c .before .before .before .before .before .before .before .before .loop-test .taken) (c .before .before .before .loop2-test .taken) (sym (c .before .same-name .ensures) ∙ c .if2 .taken)
 
--- src/names.rt:108:13
+-- src/names.rt:115:13
 add-j : tie.Need-add-j Inv-loop2 μ-loop2 Inv-loop μ-loop
 add-j c = search needs
 
--- src/names.rt:103:9
+-- src/names.rt:110:9
 loop2-less : tie.Need-loop2-less Inv-loop2 μ-loop2 Inv-loop μ-loop
 loop2-less c = search needs
 
--- src/names.rt:103:9
+-- src/names.rt:110:9
 loop2-again : tie.Need-loop2-again Inv-loop2 μ-loop2 Inv-loop μ-loop
 loop2-again c = (omega arith, below-more _ _ (c .before .before .before .before .loop2 .inv .1) (sym (c .before .same-name .ensures) ∙ c .if2 .left))
 
--- src/names.rt:110:9
+-- src/names.rt:117:9
 add-i : tie.Need-add-i Inv-loop2 μ-loop2 Inv-loop μ-loop
 add-i c = search needs
 
--- src/names.rt:97:5
+-- src/names.rt:104:5
 loop-less : tie.Need-loop-less Inv-loop2 μ-loop2 Inv-loop μ-loop
 loop-less c = search needs
 
--- src/names.rt:97:5
+-- src/names.rt:104:5
 loop-again : tie.Need-loop-again Inv-loop2 μ-loop2 Inv-loop μ-loop
 loop-again c = (omega arith, below-more _ _ (c .before .before .before .before .before .before .loop .inv .1) (new-if _ _ _ (c .before .before .if1 .left) (λ k l. c .before .loop2 .inv .1 k (omega arith))))
 
--- src/names.rt:92:1
+-- src/names.rt:98:1
 returns-3 : tie.Need-returns-3 Inv-loop2 μ-loop2 Inv-loop μ-loop
 returns-3 c = distinct-all _ _ _ (λ k l. c .before .loop .inv .1 k (omega arith))
 
@@ -107,12 +115,12 @@ attr-names-hold-spec =
     loop-holds
     add-a
     mul-a
-    element-copy-out-a
+    array-copy-out-a
     returns
     loop2-holds
     add-b
     mul-b
-    element-copy-out-b
+    array-copy-out-b
     same-name-requires
     returns-2
     add-j

@@ -1,11 +1,11 @@
-use borrow.Author.Needs.{needs}
-use Rattle.header.proofs.Laws.Model.{new-if, distinct-all, distinct-empty, distinct-twice}
-use Rattle.header.specs.Model.{sameName, isNew, dimNames}
-use borrow.Author.Count.{below-none, below-more}
-use mathlib.Core.Bool.{true, false}
-use mathlib.Core.Path.{_≡_, sym, _∙_}
-use native.Mathlib.Omega.{arith}
 use Prim.Native.Nat.{ℕ, _+_, _-_, _≤_, _<_}
+use native.Mathlib.Omega.{arith}
+use mathlib.Core.Path.{_≡_, sym, _∙_}
+use mathlib.Core.Bool.{true, false}
+use borrow.Author.Count.{below-none, below-more}
+use Rattle.header.specs.Model.{sameName, isNew, dimNames}
+use Rattle.header.proofs.Laws.Model.{new-if, distinct-all, distinct-empty, distinct-twice}
+use borrow.Author.Needs.{needs}
 use Rattle.header.proofs.names.dim_names_hold.Statement.{statement}
 use Rattle.header.proofs.names.dim_names_hold.Tie as tie
 use Rattle.header.proofs.names.dim_names_hold.Reads as reads
@@ -13,80 +13,80 @@ use Rattle.header.proofs.names.dim_names_hold.Lts as lts
 use Rattle.header.proofs.names.same_name.Reads as same-name-reads
 
 abbrev Inv-loop2 : tie.InvT-loop2
-Inv-loop2 s t i a j₀ j = (j ≤ i) × ((k : ℕ) → k < j → sameName s (dimNames t k) (dimNames t i) ≡ false)
+Inv-loop2 s t rows i a j₀ j = (j ≤ i) × ((k : ℕ) → k < j → sameName s (dimNames t k) (dimNames t i) ≡ false)
 
 abbrev μ-loop2 : tie.MeasureT-loop2
-μ-loop2 s t i a j₀ j = i - j
+μ-loop2 s t rows i a j₀ j = i - j
 
 abbrev Inv-loop : tie.InvT-loop
-Inv-loop s t i₀ i = (i ≤ t .ndims) × ((k : ℕ) → k < i → isNew s (dimNames t) k ≡ true)
+Inv-loop s t rows i₀ i = (i ≤ t .ndims) × ((k : ℕ) → k < i → isNew s (dimNames t) k ≡ true)
 
 abbrev μ-loop : tie.MeasureT-loop
-μ-loop s t i₀ i = t .ndims - i
+μ-loop s t rows i₀ i = t .ndims - i
 
--- src/names.rt:49:5
+-- src/names.rt:54:5
 loop-holds : tie.Need-loop-holds Inv-loop2 μ-loop2 Inv-loop μ-loop
 loop-holds c = (omega arith, below-none _)
 
--- src/names.rt:50:17
+-- src/names.rt:55:17
 mul-a : tie.Need-mul-a Inv-loop2 μ-loop2 Inv-loop μ-loop
 mul-a c = search needs
 
--- src/names.rt:50:17
-element-copy-out-a : tie.Need-element-copy-out-a Inv-loop2 μ-loop2 Inv-loop μ-loop
-element-copy-out-a c = search needs
+-- src/names.rt:55:17
+array-copy-out-a : tie.Need-array-copy-out-a Inv-loop2 μ-loop2 Inv-loop μ-loop
+array-copy-out-a c = search needs
 
--- src/names.rt:52:13
+-- src/names.rt:57:13
 returns : tie.Need-returns Inv-loop2 μ-loop2 Inv-loop μ-loop
-returns c = distinct-empty _ _ _ _ (c .before .before .before .loop-test .taken) (c .if1 .taken)
+returns c = distinct-empty _ _ _ _ (c .before .before .before .if1 .taken) (c .if2 .taken)
 
--- src/names.rt:55:9
+-- src/names.rt:60:9
 loop2-holds : tie.Need-loop2-holds Inv-loop2 μ-loop2 Inv-loop μ-loop
 loop2-holds c = (omega arith, below-none _)
 
--- src/names.rt:56:21
+-- src/names.rt:61:21
 mul-b : tie.Need-mul-b Inv-loop2 μ-loop2 Inv-loop μ-loop
 mul-b c = search needs
 
--- src/names.rt:56:21
-element-copy-out-b : tie.Need-element-copy-out-b Inv-loop2 μ-loop2 Inv-loop μ-loop
-element-copy-out-b c = search needs
+-- src/names.rt:61:21
+array-copy-out-b : tie.Need-array-copy-out-b Inv-loop2 μ-loop2 Inv-loop μ-loop
+array-copy-out-b c = search needs
 
--- src/names.rt:57:16
+-- src/names.rt:62:16
 same-name-requires : tie.Need-same-name-requires Inv-loop2 μ-loop2 Inv-loop μ-loop
 same-name-requires c κs = search needs
 
--- src/names.rt:58:17
+-- src/names.rt:63:17
 returns-2 : tie.Need-returns-2 Inv-loop2 μ-loop2 Inv-loop μ-loop
-returns-2 c = distinct-twice _ _ _ _ _ (c .before .before .before .before .before .before .before .before .loop-test .taken) (c .before .before .before .loop2-test .taken) (sym (c .before .same-name .ensures) ∙ c .if2 .taken)
+returns-2 c = distinct-twice _ _ _ _ _ (c .before .before .before .before .before .before .before .before .if1 .taken) (c .before .before .before .loop2-test .taken) (sym (c .before .same-name .ensures) ∙ c .if3 .taken)
 
--- src/names.rt:60:13
+-- src/names.rt:65:13
 add-j : tie.Need-add-j Inv-loop2 μ-loop2 Inv-loop μ-loop
 add-j c = search needs
 
--- src/names.rt:55:9
+-- src/names.rt:60:9
 loop2-less : tie.Need-loop2-less Inv-loop2 μ-loop2 Inv-loop μ-loop
 loop2-less c = search needs
 
--- src/names.rt:55:9
+-- src/names.rt:60:9
 loop2-again : tie.Need-loop2-again Inv-loop2 μ-loop2 Inv-loop μ-loop
-loop2-again c = (omega arith, below-more _ _ (c .before .before .before .before .loop2 .inv .1) (sym (c .before .same-name .ensures) ∙ c .if2 .left))
+loop2-again c = (omega arith, below-more _ _ (c .before .before .before .before .loop2 .inv .1) (sym (c .before .same-name .ensures) ∙ c .if3 .left))
 
--- src/names.rt:62:9
+-- src/names.rt:67:9
 add-i : tie.Need-add-i Inv-loop2 μ-loop2 Inv-loop μ-loop
 add-i c = search needs
 
--- src/names.rt:49:5
+-- src/names.rt:54:5
 loop-less : tie.Need-loop-less Inv-loop2 μ-loop2 Inv-loop μ-loop
 loop-less c = search needs
 
--- src/names.rt:49:5
+-- src/names.rt:54:5
 loop-again : tie.Need-loop-again Inv-loop2 μ-loop2 Inv-loop μ-loop
-loop-again c = (omega arith, below-more _ _ (c .before .before .before .before .before .before .loop .inv .1) (new-if _ _ _ (c .before .before .if1 .left) (λ k l. c .before .loop2 .inv .1 k (omega arith))))
+loop-again c = (omega arith, below-more _ _ (c .before .before .before .before .before .before .before .loop .inv .1) (new-if _ _ _ (c .before .before .if2 .left) (λ k l. c .before .loop2 .inv .1 k (omega arith))))
 
--- src/names.rt:44:1
+-- src/names.rt:48:1
 returns-3 : tie.Need-returns-3 Inv-loop2 μ-loop2 Inv-loop μ-loop
-returns-3 c = distinct-all _ _ _ (λ k l. c .before .loop .inv .1 k (omega arith))
+returns-3 c = distinct-all _ _ _ (λ k l. c .before .before .loop .inv .1 k (omega arith))
 
 pub dim-names-hold-spec : {M : Type 1} → statement M
 dim-names-hold-spec =
@@ -98,11 +98,11 @@ dim-names-hold-spec =
     μ-loop
     loop-holds
     mul-a
-    element-copy-out-a
+    array-copy-out-a
     returns
     loop2-holds
     mul-b
-    element-copy-out-b
+    array-copy-out-b
     same-name-requires
     returns-2
     add-j

@@ -1,12 +1,12 @@
-use Rattle.grammar.specs.Tables.{varAt}
-use borrow.Author.Needs.{needs}
-use Rattle.header.proofs.Laws.Records.{part, ids-below, capped-is, capped-above, bytes-over, padded-are, padded-in, placed-if, sizes-begin, sizes-chunk, sizes-sum, sizes-all, size-is, total-more, part-of, sum-more, never, total-none}
-use Rattle.header.specs.Records.{maxChunk, placed, total, recordSize}
-use borrow.Author.Count.{below-none, below-more}
-use mathlib.Core.Bool.{true}
-use mathlib.Core.Path.{_≡_, refl, sym, ap, subst, _∙_}
-use native.Mathlib.Omega.{arith}
 use Prim.Native.Nat.{ℕ, _-_, _≤_, _<_, _+_}
+use native.Mathlib.Omega.{arith}
+use mathlib.Core.Path.{_≡_, refl, sym, ap, subst, _∙_}
+use mathlib.Core.Bool.{true}
+use borrow.Author.Count.{below-none, below-more}
+use Rattle.header.specs.Records.{maxChunk, placed, total, recordSize}
+use Rattle.header.proofs.Laws.Records.{part, ids-below, capped-is, capped-above, bytes-over, padded-are, padded-in, placed-if, sizes-begin, sizes-chunk, sizes-sum, sizes-all, size-is, total-more, part-of, sum-more, never, total-none}
+use borrow.Author.Needs.{needs}
+use Rattle.grammar.specs.Tables.{varAt}
 use Rattle.header.proofs.records.measure.Statement.{statement}
 use Rattle.header.proofs.records.measure.Tie as tie
 use Rattle.header.proofs.records.measure.Reads as reads
@@ -16,84 +16,84 @@ use Rattle.header.proofs.records.is_record.Reads as is-record-reads
 use Rattle.header.proofs.records.record_part.Reads as record-part-reads
 
 abbrev Inv-loop : tie.InvT-loop
-Inv-loop t broken dims step₀ i₀ step i = (i ≤ t .nvars) × ((k : ℕ) → k < i → placed t k ≡ true) × (step ≡ total (part t) i) × (step ≤ maxChunk)
+Inv-loop t broken dims vars step₀ i₀ step i = (i ≤ t .nvars) × ((k : ℕ) → k < i → placed t k ≡ true) × (step ≡ total (part t) i) × (step ≤ maxChunk)
 
 abbrev μ-loop : tie.MeasureT-loop
-μ-loop t broken dims step₀ i₀ step i = t .nvars - i
+μ-loop t broken dims vars step₀ i₀ step i = t .nvars - i
 
--- src/records.rt:107:5
+-- src/records.rt:112:5
 loop-holds : tie.Need-loop-holds Inv-loop μ-loop
 loop-holds c = (omega arith, below-none _, total-none _, omega arith)
 
--- src/records.rt:108:17
+-- src/records.rt:113:17
 mul-v : tie.Need-mul-v Inv-loop μ-loop
 mul-v c = search needs
 
--- src/records.rt:108:17
-element-copy-out-v : tie.Need-element-copy-out-v Inv-loop μ-loop
-element-copy-out-v c = search needs
+-- src/records.rt:113:17
+array-copy-out-v : tie.Need-array-copy-out-v Inv-loop μ-loop
+array-copy-out-v c = search needs
 
--- src/records.rt:110:13
+-- src/records.rt:115:13
 returns : tie.Need-returns Inv-loop μ-loop
-returns c = (sizes-begin _ _ (c .before .before .before .loop-test .taken) (c .if1 .taken), never _)
+returns c = (sizes-begin _ _ (c .before .before .before .if1 .taken) (c .if2 .taken), never _)
 
--- src/records.rt:112:13
+-- src/records.rt:117:13
 chunk-bytes-requires : tie.Need-chunk-bytes-requires Inv-loop μ-loop
-chunk-bytes-requires c κs = let p = c .before .before .before .before .before .before .pre in let r = p .0 .rows _ (c .before .before .before .loop-test .taken) in (r .rank, ids-below _ (p .1) _ (c .before .before .before .loop-test .taken) (p .0 .dims), r .low, r .high)
+chunk-bytes-requires c κs = let p = c .before .before .before .before .before .before .before .before .pre in let r = p .0 .rows _ (c .before .before .before .if1 .taken) in (r .rank, ids-below _ (p .1) _ (c .before .before .before .if1 .taken) (p .0 .dims), r .low, r .high)
 
--- src/records.rt:114:13
+-- src/records.rt:119:13
 returns-2 : tie.Need-returns-2 Inv-loop μ-loop
-returns-2 c = (sizes-chunk _ _ (c .before .before .before .before .before .loop-test .taken) (bytes-over _ _ (capped-above _ (c .before .chunk-bytes .ensures) (c .if2 .taken))), never _)
+returns-2 c = (sizes-chunk _ _ (c .before .before .before .before .before .if1 .taken) (bytes-over _ _ (capped-above _ (c .before .chunk-bytes .ensures) (c .if3 .taken))), never _)
 
--- src/records.rt:116:29
+-- src/records.rt:121:29
 is-record-requires : tie.Need-is-record-requires Inv-loop μ-loop
-is-record-requires c κs = let p = c .before .before .before .before .before .before .before .before .pre in let r = p .0 .rows _ (c .before .before .before .before .before .loop-test .taken) in (r .rank, ids-below _ (p .1) _ (c .before .before .before .before .before .loop-test .taken) (p .0 .dims))
+is-record-requires c κs = let p = c .before .before .before .before .before .before .before .before .before .before .pre in let r = p .0 .rows _ (c .before .before .before .before .before .if1 .taken) in (r .rank, ids-below _ (p .1) _ (c .before .before .before .before .before .if1 .taken) (p .0 .dims))
 
--- src/records.rt:116:17
+-- src/records.rt:121:17
 record-part-requires : tie.Need-record-part-requires Inv-loop μ-loop
 record-part-requires c κs = search needs
 
--- src/records.rt:116:9
+-- src/records.rt:121:9
 add-step : tie.Need-add-step Inv-loop μ-loop
 add-step c = omega (arith, c .record-part .ensures .1)
 
--- src/records.rt:118:13
+-- src/records.rt:123:13
 returns-3 : tie.Need-returns-3 Inv-loop μ-loop
 returns-3 c =
-    let t = c .before .before .before .before .before .before .before .before .before .before .before .args .t1 in
-    let l = c .before .before .before .before .before .before .before .before .before .loop in
-    let p = part-of t (l .i) (c .before .record-part .ensures .0) (c .before .before .is-record .ensures) (capped-is _ (c .before .before .before .before .chunk-bytes .ensures) (c .before .before .before .if2 .left)) in
+    let t = c .before .before .before .before .before .before .before .before .before .before .before .before .before .args .t in
+    let l = c .before .before .before .before .before .before .before .before .before .before .loop in
+    let p = part-of t (l .i) (c .before .record-part .ensures .0) (c .before .before .is-record .ensures) (capped-is _ (c .before .before .before .before .chunk-bytes .ensures) (c .before .before .before .if3 .left)) in
     let s = sum-more t (l .i) (l .inv .2) p in
-    (sizes-sum t (l .i + 1) (omega arith) (subst (λ (n : ℕ). maxChunk < n) s (c .if3 .taken)), never _)
+    (sizes-sum t (l .i + 1) (omega arith) (subst (λ (n : ℕ). maxChunk < n) s (c .if4 .taken)), never _)
 
--- src/records.rt:120:9
+-- src/records.rt:125:9
 add-i : tie.Need-add-i Inv-loop μ-loop
 add-i c = search needs
 
--- src/records.rt:107:5
+-- src/records.rt:112:5
 loop-less : tie.Need-loop-less Inv-loop μ-loop
 loop-less c = search needs
 
--- src/records.rt:107:5
+-- src/records.rt:112:5
 loop-again : tie.Need-loop-again Inv-loop μ-loop
 loop-again c =
-    let t = c .before .before .before .before .before .before .before .before .before .before .before .args .t1 in
-    let l = c .before .before .before .before .before .before .before .before .before .loop in
-    let bytes = capped-is _ (c .before .before .before .before .chunk-bytes .ensures) (c .before .before .before .if2 .left) in
+    let t = c .before .before .before .before .before .before .before .before .before .before .before .before .before .args .t in
+    let l = c .before .before .before .before .before .before .before .before .before .before .loop in
+    let bytes = capped-is _ (c .before .before .before .before .chunk-bytes .ensures) (c .before .before .before .if3 .left) in
     let p = part-of t (l .i) (c .before .record-part .ensures .0) (c .before .before .is-record .ensures) bytes in
     let padded = padded-are (t .dims) (varAt t (l .i)) bytes in (
       omega arith,
       below-more _ _ (l .inv .1)
-          (placed-if t (l .i) (c .before .before .before .before .before .if1 .left) (subst (λ (n : ℕ). n ≤ maxChunk) padded (padded-in _ (c .before .before .before .if2 .left)))),
+          (placed-if t (l .i) (c .before .before .before .before .before .if2 .left) (subst (λ (n : ℕ). n ≤ maxChunk) padded (padded-in _ (c .before .before .before .if3 .left)))),
       sum-more t (l .i) (l .inv .2) p,
-      c .if3 .left,
+      c .if4 .left,
     )
 
--- src/records.rt:96:1
+-- src/records.rt:100:1
 returns-4 : tie.Need-returns-4 Inv-loop μ-loop
 returns-4 c =
-    let t = c .before .before .before .args .t1 in
-    let l = c .before .loop in
+    let t = c .before .before .before .before .before .args .t in
+    let l = c .before .before .loop in
     let e : l .i ≡ t .nvars = omega arith in
     let s : l .step ≡ recordSize t = l .inv .2 ∙ ap (total (part t)) e ∙ size-is t in
     (sizes-all t (λ k h. l .inv .1 k (omega arith)) (subst (λ (n : ℕ). n ≤ maxChunk) s (l .inv .3)), λ _. s)
@@ -106,7 +106,7 @@ measure-spec =
     μ-loop
     loop-holds
     mul-v
-    element-copy-out-v
+    array-copy-out-v
     returns
     chunk-bytes-requires
     returns-2
