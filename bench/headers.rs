@@ -48,11 +48,12 @@ pub fn header(dims: usize, vars: usize, own: usize) -> Vec<u8> {
     out
 }
 
-/// The three that are measured: name, bytes, variables, attributes, target.
-pub fn measured() -> [(&'static str, Vec<u8>, usize, usize, f64); 3] {
+/// Those that are measured: name, bytes, variables, attributes, target.
+pub fn measured() -> [(&'static str, Vec<u8>, usize, usize, f64); 4] {
     [
         ("64 variables, 128 attributes", header(9, 64, 2), 64, 128, 0.3),
         ("10 variables, 20 attributes", header(4, 10, 2), 10, 20, 0.7),
+        ("1 variable, 2 attributes", header(1, 1, 2), 1, 2, 2.5),
         ("1 variable", header(1, 1, 0), 1, 0, 2.5),
     ]
 }
