@@ -2,11 +2,10 @@
 ghost use mathlib.Core.Path.{_≡_};
 ghost use Prim.Native.Nat.{_+_, _≤_, _<_};
 ghost use lib.ListN.{length};
-ghost use Rattle.cdf.specs.Step.{many};
 ghost use Rattle.cdf.specs.Form.{form};
 ghost use Rattle.cdf.specs.Word.{ofWord};
 ghost use Rattle.grammar.specs.Dims.{ofListed};
-ghost use Rattle.grammar.specs.Attrs.{ofAttr, attrValues, attr, attrStep, attrCount, globalList};
+ghost use Rattle.grammar.specs.Attrs.{ofAttr, attrValues, attr, attrCount, globalList};
 ghost use Rattle.grammar.specs.Within.{Within};
 use crate::tables::Attr;
 use crate::tables::Listed;
@@ -74,37 +73,6 @@ pub fn parse_attr_count(s: &[u8], size: u64, at: usize, used: usize) -> Word
     parse_list_start(s, size, at, ATTRIBUTE_TAG, (MAX_ATTRS - used) as u64)
 }
 
-// The `n` attributes from `at`.
-fn parse_attrs(s: &[u8], size: u64, at: usize, version: u8, n: usize, tables: Tables) -> Listed
-    requires { ⌜ (at ≤ length (now s)) × (tables .nattrs + n ≤ 128) × Within tables ⌝ }
-    ensures { λ r. ⌜ (ofListed r ≡ many (attrStep (form version) (now (s .entry)) size) n tables at) × (r .tables .nvars ≡ tables .nvars) × Within (r .tables) ⌝ }
-{
-    let mut t = tables;
-    let mut at = at;
-    let mut i = 0;
-    while i < n {
-        match parse_attr(s, size, at, version) {
-            AttrStep::Stop(k, p) => {
-                return Listed {
-                    next: Next::Stop(k, p),
-                    tables: t,
-                };
-            }
-            AttrStep::Got(a, end) => {
-                let m = t.nattrs;
-                t.attrs[m] = a;
-                t.nattrs = m + 1;
-                at = end;
-            }
-        }
-        i += 1;
-    }
-    Listed {
-        next: Next::At(at),
-        tables: t,
-    }
-}
-
 // The list of global attributes at `at`.
 pub fn parse_global_attrs_list(
     s: &[u8],
@@ -116,19 +84,39 @@ pub fn parse_global_attrs_list(
     requires { ⌜ (at ≤ length (now s)) × Within tables ⌝ }
     ensures { λ r. ⌜ (ofListed r ≡ globalList (form version) (now (s .entry)) size tables at) × (r .tables .nvars ≡ tables .nvars) × Within (r .tables) ⌝ }
 {
-    let used = tables.nattrs;
+    let mut t = tables;
+    let used = t.nattrs;
     match parse_attr_count(s, size, at, used) {
         Word::Stop(k, p) => Listed {
             next: Next::Stop(k, p),
-            tables,
+            tables: t,
         },
         Word::Got(n, next) => {
-            let read = parse_attrs(s, size, next, version, n as usize, tables);
-            let next = read.next;
-            let mut t = read.tables;
+            let mut end = next;
+            let mut i = 0;
+            while i < n {
+                match parse_attr(s, size, end, version) {
+                    AttrStep::Stop(k, p) => {
+                        return Listed {
+                            next: Next::Stop(k, p),
+                            tables: t,
+                        };
+                    }
+                    AttrStep::Got(a, after) => {
+                        let m = t.nattrs;
+                        t.attrs[m] = a;
+                        t.nattrs = m + 1;
+                        end = after;
+                    }
+                }
+                i += 1;
+            }
             let m = t.nattrs;
             t.globals = m;
-            Listed { next, tables: t }
+            Listed {
+                next: Next::At(end),
+                tables: t,
+            }
         }
     }
 }

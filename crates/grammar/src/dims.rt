@@ -2,9 +2,8 @@
 ghost use mathlib.Core.Path.{_≡_};
 ghost use Prim.Native.Nat.{_+_, _≤_, _<_};
 ghost use lib.ListN.{length};
-ghost use Rattle.cdf.specs.Step.{many};
 ghost use Rattle.cdf.specs.Form.{form};
-ghost use Rattle.grammar.specs.Dims.{ofDim, ofListed, dim, dimStep, dimList};
+ghost use Rattle.grammar.specs.Dims.{ofDim, ofListed, dim, dimList};
 ghost use Rattle.grammar.specs.Within.{Within};
 use crate::tables::Dim;
 use crate::tables::Listed;
@@ -42,47 +41,41 @@ fn parse_dim(s: &[u8], size: u64, at: usize, version: u8) -> DimStep
     }
 }
 
-// The `n` dimensions from `at`.
-fn parse_dims(s: &[u8], size: u64, at: usize, version: u8, n: usize, tables: Tables) -> Listed
-    requires { ⌜ (at ≤ length (now s)) × (tables .ndims + n ≤ 32) × Within tables ⌝ }
-    ensures { λ r. ⌜ (ofListed r ≡ many (dimStep (form version) (now (s .entry)) size) n tables at) × (r .tables .nvars ≡ tables .nvars) × Within (r .tables) ⌝ }
-{
-    let mut t = tables;
-    let mut at = at;
-    let mut i = 0;
-    while i < n {
-        match parse_dim(s, size, at, version) {
-            DimStep::Stop(k, p) => {
-                return Listed {
-                    next: Next::Stop(k, p),
-                    tables: t,
-                };
-            }
-            DimStep::Got(d, end) => {
-                let m = t.ndims;
-                t.dims[m] = d;
-                t.ndims = m + 1;
-                at = end;
-            }
-        }
-        i += 1;
-    }
-    Listed {
-        next: Next::At(at),
-        tables: t,
-    }
-}
-
 // The list of dimensions at `at`, into tables that have none.
 pub fn parse_dims_list(s: &[u8], size: u64, at: usize, version: u8, tables: Tables) -> Listed
     requires { ⌜ (at ≤ length (now s)) × (tables .ndims ≡ 0) × Within tables ⌝ }
     ensures { λ r. ⌜ (ofListed r ≡ dimList (form version) (now (s .entry)) size tables at) × (r .tables .nvars ≡ tables .nvars) × Within (r .tables) ⌝ }
 {
+    let mut t = tables;
     match parse_list_start(s, size, at, DIMENSION_TAG, MAX_DIMS as u64) {
         Word::Stop(k, p) => Listed {
             next: Next::Stop(k, p),
-            tables,
+            tables: t,
         },
-        Word::Got(n, next) => parse_dims(s, size, next, version, n as usize, tables),
+        Word::Got(n, next) => {
+            let mut end = next;
+            let mut i = 0;
+            while i < n {
+                match parse_dim(s, size, end, version) {
+                    DimStep::Stop(k, p) => {
+                        return Listed {
+                            next: Next::Stop(k, p),
+                            tables: t,
+                        };
+                    }
+                    DimStep::Got(d, after) => {
+                        let m = t.ndims;
+                        t.dims[m] = d;
+                        t.ndims = m + 1;
+                        end = after;
+                    }
+                }
+                i += 1;
+            }
+            Listed {
+                next: Next::At(end),
+                tables: t,
+            }
+        }
     }
 }

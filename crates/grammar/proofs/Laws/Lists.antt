@@ -26,12 +26,6 @@ use Rattle.grammar.specs.declared.vars.Tail.{Tail}
 use Rattle.grammar.specs.declared.tables.Tables.{Tables}
 use Rattle.grammar.specs.declared.tables.Var.{Var}
 
--- closing the globals of what was read
-pub closing : (x : Next) (t : Tables) → ofTables x (closeGlobals t) ≡ bind (ofTables x t) (λ u e. got (closeGlobals u) e)
-unfolding bind
-closing (At n) t = refl
-closing (Next.Stop k p) t = refl
-
 -- codes are 1 to 6, sizes at most 8
 pub code-low : (t : DataType) → 1 ≤ codeOf t
 code-low I8 = lit≤ tt
