@@ -15,7 +15,7 @@ rows g (suc n) = rows g n ++ (g n ∷ [])
 -- a dimension: its name as bytes, and its length
 pub record Dimension : Type 0 where
   pub name : List ℕ
-  pub length : ℕ
+  pub extent : ℕ
 
 -- an attribute's values as their bytes
 pub record Attribute : Type 0 where
@@ -46,7 +46,7 @@ pub record Meaning : Type 0 where
 module _ (s : List ℕ) (t : Tables) where
   -- the i-th dimension of the tables
   abbrev pub dimension : ℕ → Dimension
-  dimension i = record { name = part s (dimAt t i .name) (dimAt t i .chars); length = dimAt t i .length }
+  dimension i = record { name = part s (dimAt t i .name) (dimAt t i .chars); extent = dimAt t i .length }
 
   -- the i-th attribute row of the tables
   abbrev pub attribute : ℕ → Attribute

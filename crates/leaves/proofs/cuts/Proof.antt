@@ -1,13 +1,7 @@
 use borrow.Author.Needs.{needs}
-use lib.ListN.{length}
 use Prim.Native.Nat.{_-_, _≤_}
 use Rattle.leaves.proofs.cuts.Statement.{statement}
 use Rattle.leaves.proofs.cuts.Tie as tie
-use Rattle.leaves.proofs.cuts.Reads as reads
-use Rattle.leaves.proofs.cuts.Lts as lts
-use Rattle.leaves.proofs.fixed.Reads as fixed-reads
-use Rattle.leaves.proofs.leaf.Reads as leaf-reads
-use Rattle.leaves.proofs.print.Reads as print-reads
 
 abbrev Inv-loop : tie.InvT-loop
 Inv-loop kind s start k₀ k = k ≤ 513
@@ -15,47 +9,36 @@ Inv-loop kind s start k₀ k = k ≤ 513
 abbrev μ-loop : tie.MeasureT-loop
 μ-loop kind s start k₀ k = 513 - k
 
--- src/main.rt:150:9
 fixed-requires : tie.Need-fixed-requires Inv-loop μ-loop
 fixed-requires c κs = search needs
 
--- src/main.rt:151:5
 loop-holds : tie.Need-loop-holds Inv-loop μ-loop
 loop-holds c = search needs
 
--- src/main.rt:152:26
 sub-leaf : tie.Need-sub-leaf Inv-loop μ-loop
 sub-leaf c = search needs
 
--- src/main.rt:152:26
 part-leaf-start : tie.Need-part-leaf-start Inv-loop μ-loop
 part-leaf-start c = search needs
 
--- src/main.rt:152:26
 part-leaf-end : tie.Need-part-leaf-end Inv-loop μ-loop
 part-leaf-end c = search needs
 
--- src/main.rt:152:15
 leaf-requires : tie.Need-leaf-requires Inv-loop μ-loop
 leaf-requires c κs = search needs
 
--- src/main.rt:152:9
 print-requires : tie.Need-print-requires Inv-loop μ-loop
 print-requires c κs = search needs
 
--- src/main.rt:153:9
 add-k : tie.Need-add-k Inv-loop μ-loop
 add-k c = search needs
 
--- src/main.rt:151:5
 loop-less : tie.Need-loop-less Inv-loop μ-loop
 loop-less c = search needs
 
--- src/main.rt:151:5
 loop-again : tie.Need-loop-again Inv-loop μ-loop
 loop-again c = search needs
 
--- src/main.rt:146:1
 returns : tie.Need-returns Inv-loop μ-loop
 returns c = search needs
 

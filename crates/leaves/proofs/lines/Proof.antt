@@ -3,10 +3,6 @@ use lib.ListN.{length}
 use Prim.Native.Nat.{_-_, _≤_}
 use Rattle.leaves.proofs.lines.Statement.{statement}
 use Rattle.leaves.proofs.lines.Tie as tie
-use Rattle.leaves.proofs.lines.Reads as reads
-use Rattle.leaves.proofs.lines.Lts as lts
-use Rattle.leaves.proofs.line.Reads as line-reads
-use Rattle.leaves.proofs.line_end.Reads as line-end-reads
 
 abbrev Inv-loop : tie.InvT-loop
 Inv-loop text at₀ at = at ≤ length text
@@ -14,47 +10,36 @@ Inv-loop text at₀ at = at ≤ length text
 abbrev μ-loop : tie.MeasureT-loop
 μ-loop text at₀ at = length text - at
 
--- src/main.rt:215:5
 loop-holds : tie.Need-loop-holds Inv-loop μ-loop
 loop-holds c = search needs
 
--- src/main.rt:216:13
 line-end-requires : tie.Need-line-end-requires Inv-loop μ-loop
 line-end-requires c κs = search needs
 
--- src/main.rt:217:14
 sub-line : tie.Need-sub-line Inv-loop μ-loop
 sub-line c = search needs
 
--- src/main.rt:217:14
 part-line-start : tie.Need-part-line-start Inv-loop μ-loop
 part-line-start c = search needs
 
--- src/main.rt:217:14
 part-line-end : tie.Need-part-line-end Inv-loop μ-loop
 part-line-end c = search needs
 
--- src/main.rt:217:9
 line-requires : tie.Need-line-requires Inv-loop μ-loop
 line-requires c κs = search needs
 
--- src/main.rt:219:13
 returns : tie.Need-returns Inv-loop μ-loop
 returns c = search needs
 
--- src/main.rt:221:14
 add-at : tie.Need-add-at Inv-loop μ-loop
 add-at c = search needs
 
--- src/main.rt:215:5
 loop-less : tie.Need-loop-less Inv-loop μ-loop
 loop-less c = search needs
 
--- src/main.rt:215:5
 loop-again : tie.Need-loop-again Inv-loop μ-loop
 loop-again c = search needs
 
--- src/main.rt:213:1
 returns-2 : tie.Need-returns-2 Inv-loop μ-loop
 returns-2 c = search needs
 

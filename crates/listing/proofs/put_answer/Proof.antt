@@ -1,6 +1,6 @@
 use borrow.Author.Needs.{needs}
 use native.Mathlib.Omega.{arith}
-use mathlib.Core.Path.{_≡_, sym, subst, ap, _∙_}
+use mathlib.Core.Path.{sym, subst, ap, _∙_}
 use lib.Seq.{length-take-le}
 use Prim.Native.Nat.{_≤_}
 use Rattle.hexlines.specs.Line.{ofLine, size}
@@ -9,91 +9,68 @@ use Rattle.hexlines.proofs.Laws.Text.{grown-is}
 use Rattle.listing.proofs.Laws.Listing.{long-text, hex-text, text-of-file}
 use Rattle.listing.proofs.put_answer.Statement.{statement}
 use Rattle.listing.proofs.put_answer.Tie as tie
-use Rattle.listing.proofs.put_answer.Reads as reads
-use Rattle.listing.proofs.put_answer.Lts as lts
-use Rattle.hexlines.proofs.line.line_answer.Reads as line-answer-reads
-use Rattle.hexlines.proofs.text.put_text.Reads as put-text-reads
-use Rattle.listing.proofs.put_file.Reads as put-file-reads
 
--- src/main.rt:59:29
 slice-aggregate-line-answer : tie.Need-slice-aggregate-line-answer
 slice-aggregate-line-answer c = search needs
 
--- src/main.rt:59:11
 line-answer-requires : tie.Need-line-answer-requires
 line-answer-requires c κs = search needs
 
--- src/main.rt:60:32
 enum-told : tie.Need-enum-told
 enum-told c = search needs
 
--- src/main.rt:60:41
 slice-aggregate-put-text : tie.Need-slice-aggregate-put-text
 slice-aggregate-put-text c = search needs
 
--- src/main.rt:60:23
 put-text-requires : tie.Need-put-text-requires
 put-text-requires c κs = search needs
 
--- src/main.rt:61:31
 enum-told-2 : tie.Need-enum-told-2
 enum-told-2 c = search needs
 
--- src/main.rt:61:40
 slice-aggregate-put-text-2 : tie.Need-slice-aggregate-put-text-2
 slice-aggregate-put-text-2 c = search needs
 
--- src/main.rt:61:22
 put-text-requires-2 : tie.Need-put-text-requires-2
 put-text-requires-2 c κs = search needs
 
--- src/main.rt:62:20
 enum-known-n : tie.Need-enum-known-n
 enum-known-n c = search needs
 
--- src/main.rt:62:44
 array-share-prefix-file : tie.Need-array-share-prefix-file
 array-share-prefix-file c =
     let fits : c .before .before .n .given .0 .0 ≤ 8192 = subst (λ (w : Line). size w ≤ 8192) (c .before .before .n .given .1) (c .before .before .before .before .before .line-answer .ensures .1) in
     omega (arith, fits, c .before .before .before .before .before .line-answer .kept)
 
--- src/main.rt:62:44
 slice-aggregate-put-file : tie.Need-slice-aggregate-put-file
 slice-aggregate-put-file c =
     let fits : c .before .before .before .n .given .0 .0 ≤ 8192 = subst (λ (w : Line). size w ≤ 8192) (c .before .before .before .n .given .1) (c .before .before .before .before .before .before .line-answer .ensures .1) in
     sym (length-take-le _ _ (omega (arith, fits, c .before .before .before .before .before .before .line-answer .kept)))
 
--- src/main.rt:62:26
 put-file-requires : tie.Need-put-file-requires
 put-file-requires c κs = search needs
 
--- src/main.rt:54:1
 same-length : tie.Need-same-length
 same-length c = search needs
 
--- src/main.rt:54:1
 returns : tie.Need-returns
 returns c = (
   grown-is (c .before .before .put-text .ensures) (long-text (ap (λ (w : Line). ofLine w (c .before .before .before .before .before .before .before .before .line-answer .last .1 .0)) (sym (c .before .before .before .before .before .enum-told .given .1)) ∙ c .before .before .before .before .before .before .before .before .line-answer .ensures .0)),
   omega (arith, c .before .before .put-text .ensures .place),
 )
 
--- src/main.rt:54:1
 same-length-2 : tie.Need-same-length-2
 same-length-2 c = search needs
 
--- src/main.rt:54:1
 returns-2 : tie.Need-returns-2
 returns-2 c = (
   grown-is (c .before .before .put-text2 .ensures) (hex-text (ap (λ (w : Line). ofLine w (c .before .before .before .before .before .before .before .before .line-answer .last .1 .0)) (sym (c .before .before .before .before .before .enum-told2 .given .1)) ∙ c .before .before .before .before .before .before .before .before .line-answer .ensures .0)),
   omega (arith, c .before .before .put-text2 .ensures .place),
 )
 
--- src/main.rt:54:1
 same-length-3 : tie.Need-same-length-3
 same-length-3 c = search needs
 
--- src/main.rt:54:1
 returns-3 : tie.Need-returns-3
 returns-3 c =
     (grown-is (c .before .before .put-file .ensures .0) (text-of-file _ (ap (λ (w : Line). ofLine w (c .before .before .before .before .before .before .before .before .before .line-answer .last .1 .0)) (sym (c .before .before .before .before .before .before .n .given .1)) ∙ c .before .before .before .before .before .before .before .before .before .line-answer .ensures .0)), omega arith)

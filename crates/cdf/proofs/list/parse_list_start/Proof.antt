@@ -4,61 +4,43 @@ use native.Mathlib.Omega.{arith}
 use borrow.Author.Needs.{needs}
 use Rattle.cdf.proofs.list.parse_list_start.Statement.{statement}
 use Rattle.cdf.proofs.list.parse_list_start.Tie as tie
-use Rattle.cdf.proofs.list.parse_list_start.Reads as reads
-use Rattle.cdf.proofs.list.parse_list_start.Lts as lts
-use Rattle.cdf.proofs.step.unfinished.Reads as unfinished-reads
-use Rattle.cdf.proofs.version.begins.Reads as begins-reads
-use Rattle.cdf.proofs.word.parse_count.Reads as parse-count-reads
 
--- src/list.rt:20:22
 slice-aggregate-begins : tie.Need-slice-aggregate-begins
 slice-aggregate-begins c = search needs
 
--- src/list.rt:20:8
 begins-requires : tie.Need-begins-requires
 begins-requires c κs = search needs
 
--- src/list.rt:22:12
 sub-if2 : tie.Need-sub-if2
 sub-if2 c = search needs
 
--- src/list.rt:23:31
 unfinished-requires : tie.Need-unfinished-requires
 unfinished-requires c κs = search needs
 
--- src/list.rt:23:13
 returns : tie.Need-returns
 returns c = start-short _ _ _ _ _ _ _ (sym (c .before .before .before .begins .ensures) ∙ c .before .before .if1 .taken) (omega arith) (omega arith) (c .unfinished .ensures)
 
--- src/list.rt:25:29
 add-t11 : tie.Need-add-t11
 add-t11 c = search needs
 
--- src/list.rt:25:9
 returns-2 : tie.Need-returns-2
 returns-2 c = start-absent _ _ _ _ _ _ _ (sym (c .before .before .begins .ensures) ∙ c .before .if1 .taken) (omega arith)
 
--- src/list.rt:27:22
 slice-aggregate-begins-2 : tie.Need-slice-aggregate-begins-2
 slice-aggregate-begins-2 c = search needs
 
--- src/list.rt:27:8
 begins-requires-2 : tie.Need-begins-requires-2
 begins-requires-2 c κs = search needs
 
--- src/list.rt:28:37
 add-parse-count : tie.Need-add-parse-count
 add-parse-count c = search needs
 
--- src/list.rt:28:9
 parse-count-requires : tie.Need-parse-count-requires
 parse-count-requires c κs = tag-inside 8 _ _ _ (sym (c .before .before .before .before .begins .ensures) ∙ c .before .before .before .if1 .left) (sym (c .before .begins2 .ensures) ∙ c .if3 .taken)
 
--- src/list.rt:28:9
 returns-3 : tie.Need-returns-3
 returns-3 c = start-tag _ _ _ _ _ _ _ (sym (c .before .before .before .before .before .begins .ensures) ∙ c .before .before .before .before .if1 .left) (sym (c .before .before .begins2 .ensures) ∙ c .before .if3 .taken) (c .parse-count .ensures)
 
--- src/list.rt:16:1
 returns-4 : tie.Need-returns-4
 returns-4 c = start-bad _ _ _ _ _ _ _ (sym (c .before .before .before .before .begins .ensures) ∙ c .before .before .before .if1 .left) (sym (c .before .begins2 .ensures) ∙ c .if3 .left)
 

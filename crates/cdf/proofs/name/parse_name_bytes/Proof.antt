@@ -7,48 +7,34 @@ use native.Mathlib.Omega.{arith}
 use borrow.Author.Needs.{needs}
 use Rattle.cdf.proofs.name.parse_name_bytes.Statement.{statement}
 use Rattle.cdf.proofs.name.parse_name_bytes.Tie as tie
-use Rattle.cdf.proofs.name.parse_name_bytes.Reads as reads
-use Rattle.cdf.proofs.name.parse_name_bytes.Lts as lts
-use Rattle.cdf.proofs.step.unfinished.Reads as unfinished-reads
-use Rattle.cdf.proofs.utf8.is_utf8.Reads as is-utf8-reads
 
--- src/name.rt:21:8
 sub-if1 : tie.Need-sub-if1
 sub-if1 c = search needs
 
--- src/name.rt:22:27
 unfinished-requires : tie.Need-unfinished-requires
 unfinished-requires c κs = search needs
 
--- src/name.rt:22:9
 returns : tie.Need-returns
 returns c = nameBytes-short _ _ _ _ (omega arith) (omega arith) (c .unfinished .ensures)
 
--- src/name.rt:24:15
 add-end : tie.Need-add-end
 add-end c = search needs
 
--- src/name.rt:25:16
 sub-is-utf8 : tie.Need-sub-is-utf8
 sub-is-utf8 c = search needs
 
--- src/name.rt:25:16
 part-is-utf8-start : tie.Need-part-is-utf8-start
 part-is-utf8-start c = search needs
 
--- src/name.rt:25:16
 part-is-utf8-end : tie.Need-part-is-utf8-end
 part-is-utf8-end c = search needs
 
--- src/name.rt:25:8
 is-utf8-requires : tie.Need-is-utf8-requires
 is-utf8-requires c κs = search needs
 
--- src/name.rt:26:9
 returns-2 : tie.Need-returns-2
 returns-2 c = let a = c .before .before .before .before .before .args in let e : a .at + a .count - a .at ≡ a .count = omega arith in nameBytes-got _ _ _ _ (omega arith) (ap (λ (n : ℕ). utf8 (part (a .s .now) (a .at) n)) (sym e) ∙ sym (c .before .is-utf8 .ensures) ∙ c .if2 .taken)
 
--- src/name.rt:16:1
 returns-3 : tie.Need-returns-3
 returns-3 c = let a = c .before .before .before .before .before .args in let e : a .at + a .count - a .at ≡ a .count = omega arith in nameBytes-bad _ _ _ _ (omega arith) (ap (λ (n : ℕ). utf8 (part (a .s .now) (a .at) n)) (sym e) ∙ sym (c .before .is-utf8 .ensures) ∙ c .if2 .left)
 

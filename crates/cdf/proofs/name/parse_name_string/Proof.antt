@@ -7,61 +7,43 @@ use mathlib.Core.Path.{sym, ap, _∙_}
 use borrow.Author.Needs.{needs}
 use Rattle.cdf.proofs.name.parse_name_string.Statement.{statement}
 use Rattle.cdf.proofs.name.parse_name_string.Tie as tie
-use Rattle.cdf.proofs.name.parse_name_string.Reads as reads
-use Rattle.cdf.proofs.name.parse_name_string.Lts as lts
-use Rattle.cdf.proofs.name.parse_name_bytes.Reads as parse-name-bytes-reads
-use Rattle.cdf.proofs.padding.parse_zero_padding.Reads as parse-zero-padding-reads
-use Rattle.cdf.proofs.word.parse_count.Reads as parse-count-reads
 
--- src/name.rt:37:11
 parse-count-requires : tie.Need-parse-count-requires
 parse-count-requires c κs = search needs
 
--- src/name.rt:38:20
 enum-known-k : tie.Need-enum-known-k
 enum-known-k c = search needs
 
--- src/name.rt:39:19
 enum-known-count : tie.Need-enum-known-count
 enum-known-count c = search needs
 
--- src/name.rt:39:42
 parse-name-bytes-requires : tie.Need-parse-name-bytes-requires
 parse-name-bytes-requires c κs = got-ends (ap ofWord (sym (c .before .count .given .1)) ∙ c .before .before .before .parse-count .ensures) (count-ends _ _ _ _ _)
 
--- src/name.rt:40:24
 enum-known-k-2 : tie.Need-enum-known-k-2
 enum-known-k-2 c = search needs
 
--- src/name.rt:41:22
 enum-known-end : tie.Need-enum-known-end
 enum-known-end c = search needs
 
--- src/name.rt:41:36
 parse-zero-padding-requires : tie.Need-parse-zero-padding-requires
 parse-zero-padding-requires c κs = got-ends (ap ofNext (sym (c .before .end .given .1)) ∙ c .before .before .before .parse-name-bytes .ensures) (nameBytes-ends _ _ _ _)
 
--- src/name.rt:42:28
 enum-known-k-3 : tie.Need-enum-known-k-3
 enum-known-k-3 c = search needs
 
--- src/name.rt:43:26
 enum-known-next : tie.Need-enum-known-next
 enum-known-next c = search needs
 
--- src/name.rt:33:1
 returns : tie.Need-returns
 returns c = name-count-stops _ _ _ _ (ap ofWord (sym (c .before .k .given .1)) ∙ c .before .before .before .parse-count .ensures)
 
--- src/name.rt:33:1
 returns-2 : tie.Need-returns-2
 returns-2 c = name-bytes-stop _ _ _ _ (ap ofWord (sym (c .before .before .before .before .before .count .given .1)) ∙ c .before .before .before .before .before .before .before .parse-count .ensures) (ap ofNext (sym (c .before .k2 .given .1)) ∙ c .before .before .before .parse-name-bytes .ensures)
 
--- src/name.rt:33:1
 returns-3 : tie.Need-returns-3
 returns-3 c = name-padding-stops _ _ _ _ (ap ofWord (sym (c .before .before .before .before .before .before .before .before .before .count .given .1)) ∙ c .before .before .before .before .before .before .before .before .before .before .before .parse-count .ensures) (ap ofNext (sym (c .before .before .before .before .before .end .given .1)) ∙ c .before .before .before .before .before .before .before .parse-name-bytes .ensures) (ap ofNext (sym (c .before .k3 .given .1)) ∙ c .before .before .before .parse-zero-padding .ensures)
 
--- src/name.rt:33:1
 returns-4 : tie.Need-returns-4
 returns-4 c = name-got _ _ _ _ (ap ofWord (sym (c .before .before .before .before .before .before .before .before .before .count .given .1)) ∙ c .before .before .before .before .before .before .before .before .before .before .before .parse-count .ensures) (ap ofNext (sym (c .before .before .before .before .before .end .given .1)) ∙ c .before .before .before .before .before .before .before .parse-name-bytes .ensures) (ap ofNext (sym (c .before .next .given .1)) ∙ c .before .before .before .parse-zero-padding .ensures)
 

@@ -3,20 +3,13 @@ use mathlib.Core.Path.{_∙_}
 use borrow.Author.Needs.{needs}
 use Rattle.cdf.proofs.number.be32.Statement.{statement}
 use Rattle.cdf.proofs.number.be32.Tie as tie
-use Rattle.cdf.proofs.number.be32.Reads as reads
-use Rattle.cdf.proofs.number.be32.Lts as lts
-use Rattle.cdf.proofs.number.le32.Reads as le32-reads
-use Rattle.cdf.proofs.number.swap32.Reads as swap32-reads
 
--- src/number.rt:39:12
 le32-requires : tie.Need-le32-requires
 le32-requires c κs = search needs
 
--- src/number.rt:39:5
 swap32-requires : tie.Need-swap32-requires
 swap32-requires c κs = search needs
 
--- src/number.rt:35:1
 returns : tie.Need-returns
 returns c = c .swap32 .ensures ∙ be-turned _ (λ i. c .before .before .shared-slice-known .given i .fits) _ _ (c .before .le32 .ensures)
 

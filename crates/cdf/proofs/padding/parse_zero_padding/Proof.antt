@@ -4,41 +4,28 @@ use native.Mathlib.Omega.{arith}
 use borrow.Author.Needs.{needs}
 use Rattle.cdf.proofs.padding.parse_zero_padding.Statement.{statement}
 use Rattle.cdf.proofs.padding.parse_zero_padding.Tie as tie
-use Rattle.cdf.proofs.padding.parse_zero_padding.Reads as reads
-use Rattle.cdf.proofs.padding.parse_zero_padding.Lts as lts
-use Rattle.cdf.proofs.padding.all_zero.Reads as all-zero-reads
-use Rattle.cdf.proofs.padding.compute_padding_size.Reads as compute-padding-size-reads
-use Rattle.cdf.proofs.step.unfinished.Reads as unfinished-reads
 
--- src/padding.rt:38:13
 compute-padding-size-requires : tie.Need-compute-padding-size-requires
 compute-padding-size-requires c κs = search needs
 
--- src/padding.rt:39:8
 sub-if1 : tie.Need-sub-if1
 sub-if1 c = search needs
 
--- src/padding.rt:40:27
 unfinished-requires : tie.Need-unfinished-requires
 unfinished-requires c κs = search needs
 
--- src/padding.rt:40:9
 returns : tie.Need-returns
 returns c = padding-short _ _ _ _ (c .before .before .compute-padding-size .ensures) (omega arith) (omega arith) (c .unfinished .ensures)
 
--- src/padding.rt:42:8
 all-zero-requires : tie.Need-all-zero-requires
 all-zero-requires c κs = search needs
 
--- src/padding.rt:43:25
 add-t12 : tie.Need-add-t12
 add-t12 c = search needs
 
--- src/padding.rt:43:9
 returns-2 : tie.Need-returns-2
 returns-2 c = padding-got _ _ _ _ (c .before .before .before .compute-padding-size .ensures) (omega arith) (sym (c .if2 .taken) ∙ c .before .all-zero .ensures)
 
--- src/padding.rt:33:1
 returns-3 : tie.Need-returns-3
 returns-3 c = padding-bad _ _ _ _ (c .before .before .before .compute-padding-size .ensures) (omega arith) (sym (c .if2 .left) ∙ c .before .all-zero .ensures)
 

@@ -1,14 +1,10 @@
 use borrow.Author.Tests.{lt-ltb, le-ltb}
 use Rattle.cdf.proofs.step.unfinished.Statement.{statement}
 use Rattle.cdf.proofs.step.unfinished.Tie as tie
-use Rattle.cdf.proofs.step.unfinished.Reads as reads
-use Rattle.cdf.proofs.step.unfinished.Lts as lts
 
--- src/step.rt:19:1
 returns : tie.Need-returns
 returns c = simp (lt-ltb _ _ (c .if1 .taken))
 
--- src/step.rt:19:1
 returns-2 : tie.Need-returns-2
 returns-2 c = simp (le-ltb _ _ (c .if1 .left))
 

@@ -4,40 +4,28 @@ use mathlib.Core.Path.{sym, ap, _∙_}
 use borrow.Author.Needs.{needs}
 use Rattle.cdf.proofs.types.parse_data_type.Statement.{statement}
 use Rattle.cdf.proofs.types.parse_data_type.Tie as tie
-use Rattle.cdf.proofs.types.parse_data_type.Reads as reads
-use Rattle.cdf.proofs.types.parse_data_type.Lts as lts
-use Rattle.cdf.proofs.types.DataType.of_code.Reads as of-code-reads
-use Rattle.cdf.proofs.word.parse_non_neg.Reads as parse-non-neg-reads
 
--- src/types.rt:94:11
 parse-non-neg-requires : tie.Need-parse-non-neg-requires
 parse-non-neg-requires c κs = search needs
 
--- src/types.rt:95:20
 enum-known-k : tie.Need-enum-known-k
 enum-known-k c = search needs
 
--- src/types.rt:96:19
 enum-known-code : tie.Need-enum-known-code
 enum-known-code c = search needs
 
--- src/types.rt:98:17
 returns : tie.Need-returns
 returns c = type-low _ _ _ _ (ap ofWord (sym (c .before .before .code .given .1)) ∙ c .before .before .before .before .parse-non-neg .ensures) (c .if1 .taken)
 
--- src/types.rt:101:17
 returns-2 : tie.Need-returns-2
 returns-2 c = type-high _ _ _ _ (ap ofWord (sym (c .before .before .before .code .given .1)) ∙ c .before .before .before .before .before .parse-non-neg .ensures) (c .if2 .taken)
 
--- src/types.rt:103:24
 of-code-requires : tie.Need-of-code-requires
 of-code-requires c κs = search needs
 
--- src/types.rt:90:1
 returns-3 : tie.Need-returns-3
 returns-3 c = type-stop _ _ _ _ (ap ofWord (sym (c .before .k .given .1)) ∙ c .before .before .before .parse-non-neg .ensures)
 
--- src/types.rt:90:1
 returns-4 : tie.Need-returns-4
 returns-4 c = type-got _ _ _ _ (ap ofWord (sym (c .before .before .before .before .code .given .1)) ∙ c .before .before .before .before .before .before .parse-non-neg .ensures) (c .before .before .if1 .left) (c .before .if2 .left) (c .of-code .ensures)
 

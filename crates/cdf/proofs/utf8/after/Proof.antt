@@ -3,36 +3,25 @@ use mathlib.Core.Path.{_∙_}
 use borrow.Author.Needs.{needs}
 use Rattle.cdf.proofs.utf8.after.Statement.{statement}
 use Rattle.cdf.proofs.utf8.after.Tie as tie
-use Rattle.cdf.proofs.utf8.after.Reads as reads
-use Rattle.cdf.proofs.utf8.after.Lts as lts
-use Rattle.cdf.proofs.utf8.begun.Reads as begun-reads
-use Rattle.cdf.proofs.utf8.expect.Reads as expect-reads
 
--- src/utf8.rt:64:9
 begun-requires : tie.Need-begun-requires
 begun-requires c κs = search needs
 
--- src/utf8.rt:64:9
 returns : tie.Need-returns
 returns c = c .begun .ensures ∙ after-first _ _ (c .before .if1 .taken)
 
--- src/utf8.rt:67:9
 returns-2 : tie.Need-returns-2
 returns-2 c = after-under _ _ (c .before .before .if1 .left) (c .if2 .taken)
 
--- src/utf8.rt:70:9
 returns-3 : tie.Need-returns-3
 returns-3 c = after-over _ _ (c .before .before .before .before .if1 .left) (c .if3 .taken)
 
--- src/utf8.rt:72:12
 sub-expect : tie.Need-sub-expect
 sub-expect c = search needs
 
--- src/utf8.rt:72:5
 expect-requires : tie.Need-expect-requires
 expect-requires c κs = search needs
 
--- src/utf8.rt:60:1
 returns-4 : tie.Need-returns-4
 returns-4 c = c .expect .ensures ∙ after-inside _ _ (c .before .before .before .before .before .before .if1 .left) (c .before .before .before .before .if2 .left) (c .before .before .if3 .left)
 

@@ -8,9 +8,6 @@ use mathlib.Core.Path.{_≡_, sym, _∙_}
 use Prim.Native.Nat.{_-_, _≤_}
 use Rattle.cdf.proofs.utf8.is_utf8.Statement.{statement}
 use Rattle.cdf.proofs.utf8.is_utf8.Tie as tie
-use Rattle.cdf.proofs.utf8.is_utf8.Reads as reads
-use Rattle.cdf.proofs.utf8.is_utf8.Lts as lts
-use Rattle.cdf.proofs.utf8.after.Reads as after-reads
 
 abbrev Inv-loop : tie.InvT-loop
 Inv-loop text d₀ i₀ d i = (i ≤ length text) × (utf8 text ≡ whole (scan (drop i text) (Good d)))
@@ -18,43 +15,33 @@ Inv-loop text d₀ i₀ d i = (i ≤ length text) × (utf8 text ≡ whole (scan 
 abbrev μ-loop : tie.MeasureT-loop
 μ-loop text d₀ i₀ d i = length text - i
 
--- src/utf8.rt:85:5
 loop-holds : tie.Need-loop-holds Inv-loop μ-loop
 loop-holds c = (omega arith, text-starts _)
 
--- src/utf8.rt:86:24
 shared-slice-read-after : tie.Need-shared-slice-read-after Inv-loop μ-loop
 shared-slice-read-after c = search needs
 
--- src/utf8.rt:86:15
 after-requires : tie.Need-after-requires Inv-loop μ-loop
 after-requires c κs = search needs
 
--- src/utf8.rt:87:29
 enum-told : tie.Need-enum-told Inv-loop μ-loop
 enum-told c = search needs
 
--- src/utf8.rt:87:29
 returns : tie.Need-returns Inv-loop μ-loop
 returns c = sym (c .before .before .before .before .before .loop .inv .1 ∙ text-bad _ _ _ (c .before .before .before .before .loop-test .taken) (sym (c .enum-told .given .1) ∙ c .before .before .after .ensures))
 
--- src/utf8.rt:88:27
 enum-known-next : tie.Need-enum-known-next Inv-loop μ-loop
 enum-known-next c = search needs
 
--- src/utf8.rt:90:9
 add-i : tie.Need-add-i Inv-loop μ-loop
 add-i c = search needs
 
--- src/utf8.rt:85:5
 loop-less : tie.Need-loop-less Inv-loop μ-loop
 loop-less c = search needs
 
--- src/utf8.rt:85:5
 loop-again : tie.Need-loop-again Inv-loop μ-loop
 loop-again c = (omega arith, c .before .before .before .before .before .before .loop .inv .1 ∙ text-more _ _ _ (c .before .before .before .before .before .loop-test .taken) (sym (c .before .next .given .1) ∙ c .before .before .before .after .ensures))
 
--- src/utf8.rt:76:1
 returns-2 : tie.Need-returns-2 Inv-loop μ-loop
 returns-2 c = sym (c .before .before .loop .inv .1 ∙ text-ends _ _ _ (c .before .loop-test .left))
 

@@ -1,18 +1,13 @@
 use Rattle.cdf.proofs.Laws.Magic.{admits-1, admits-2, admits-none}
 use Rattle.cdf.proofs.version.admits.Statement.{statement}
 use Rattle.cdf.proofs.version.admits.Tie as tie
-use Rattle.cdf.proofs.version.admits.Reads as reads
-use Rattle.cdf.proofs.version.admits.Lts as lts
 
--- src/version.rt:52:9
 returns : tie.Need-returns
 returns c = admits-1 _ _ (c .if1 .taken)
 
--- src/version.rt:55:9
 returns-2 : tie.Need-returns-2
 returns-2 c = admits-2 _ _ (c .if2 .taken)
 
--- src/version.rt:48:1
 returns-3 : tie.Need-returns-3
 returns-3 c = admits-none _ _ (c .before .if1 .left) (c .if2 .left)
 

@@ -9,8 +9,6 @@ use native.Mathlib.Omega.{arith}
 use Prim.Native.Nat.{ℕ, _+_, _-_, _≤_, _<_}
 use Rattle.cdf.proofs.version.begins.Statement.{statement}
 use Rattle.cdf.proofs.version.begins.Tie as tie
-use Rattle.cdf.proofs.version.begins.Reads as reads
-use Rattle.cdf.proofs.version.begins.Lts as lts
 
 abbrev Inv-loop : tie.InvT-loop
 Inv-loop s at pattern left i₀ i = (i ≤ length pattern) × (left ≡ length s - at) × (at ≤ length s) × ((k : ℕ) → k < i → getD s (at + k) 0 ≡ getD pattern k 0)
@@ -18,47 +16,36 @@ Inv-loop s at pattern left i₀ i = (i ≤ length pattern) × (left ≡ length s
 abbrev μ-loop : tie.MeasureT-loop
 μ-loop s at pattern left i₀ i = length pattern - i
 
--- src/version.rt:20:16
 sub-left : tie.Need-sub-left Inv-loop μ-loop
 sub-left c = search needs
 
--- src/version.rt:22:5
 loop-holds : tie.Need-loop-holds Inv-loop μ-loop
 loop-holds c = (omega arith, omega arith, omega arith, below-none _)
 
--- src/version.rt:24:13
 returns : tie.Need-returns Inv-loop μ-loop
 returns c = begins-all _ _ _ (λ k l. ⊎-elim (λ (h : c .before .before .loop .i ≤ k). inl (omega arith)) (λ (h : k < c .before .before .loop .i). inr (c .before .before .loop .inv .3 k h)) (order (c .before .before .loop .i) k))
 
--- src/version.rt:26:14
 add-if2 : tie.Need-add-if2 Inv-loop μ-loop
 add-if2 c = search needs
 
--- src/version.rt:26:12
 shared-slice-read-if2 : tie.Need-shared-slice-read-if2 Inv-loop μ-loop
 shared-slice-read-if2 c = search needs
 
--- src/version.rt:26:25
 shared-slice-read-if2-2 : tie.Need-shared-slice-read-if2-2 Inv-loop μ-loop
 shared-slice-read-if2-2 c = search needs
 
--- src/version.rt:27:13
 returns-2 : tie.Need-returns-2 Inv-loop μ-loop
 returns-2 c = begins-not _ _ _ (c .before .before .before .before .before .loop .i) (c .before .before .before .before .loop-test .taken) (omega arith) (c .if2 .taken)
 
--- src/version.rt:29:9
 add-i : tie.Need-add-i Inv-loop μ-loop
 add-i c = search needs
 
--- src/version.rt:22:5
 loop-less : tie.Need-loop-less Inv-loop μ-loop
 loop-less c = search needs
 
--- src/version.rt:22:5
 loop-again : tie.Need-loop-again Inv-loop μ-loop
 loop-again c = (omega arith, omega arith, omega arith, below-more _ _ (c .before .before .before .before .before .loop .inv .3) (c .if2 .left))
 
--- src/version.rt:16:1
 returns-3 : tie.Need-returns-3 Inv-loop μ-loop
 returns-3 c = begins-all _ _ _ (λ k l. inr (c .before .loop .inv .3 k (omega arith)))
 

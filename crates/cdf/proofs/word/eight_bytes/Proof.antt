@@ -3,32 +3,22 @@ use native.Mathlib.Omega.{arith}
 use borrow.Author.Needs.{needs}
 use Rattle.cdf.proofs.word.eight_bytes.Statement.{statement}
 use Rattle.cdf.proofs.word.eight_bytes.Tie as tie
-use Rattle.cdf.proofs.word.eight_bytes.Reads as reads
-use Rattle.cdf.proofs.word.eight_bytes.Lts as lts
-use Rattle.cdf.proofs.number.be64.Reads as be64-reads
-use Rattle.cdf.proofs.step.unfinished.Reads as unfinished-reads
 
--- src/word.rt:29:8
 sub-if1 : tie.Need-sub-if1
 sub-if1 c = search needs
 
--- src/word.rt:30:27
 unfinished-requires : tie.Need-unfinished-requires
 unfinished-requires c κs = search needs
 
--- src/word.rt:30:9
 returns : tie.Need-returns
 returns c = word-short _ _ _ _ (omega arith) (omega arith) (c .unfinished .ensures)
 
--- src/word.rt:32:15
 be64-requires : tie.Need-be64-requires
 be64-requires c κs = search needs
 
--- src/word.rt:32:28
 add-t5 : tie.Need-add-t5
 add-t5 c = search needs
 
--- src/word.rt:24:1
 returns-2 : tie.Need-returns-2
 returns-2 c = word-got _ _ _ _ (omega arith) (c .be64 .ensures)
 

@@ -3,36 +3,25 @@ use native.Mathlib.Omega.{arith}
 use borrow.Author.Needs.{needs}
 use Rattle.cdf.proofs.word.four_bytes.Statement.{statement}
 use Rattle.cdf.proofs.word.four_bytes.Tie as tie
-use Rattle.cdf.proofs.word.four_bytes.Reads as reads
-use Rattle.cdf.proofs.word.four_bytes.Lts as lts
-use Rattle.cdf.proofs.number.be32.Reads as be32-reads
-use Rattle.cdf.proofs.step.unfinished.Reads as unfinished-reads
 
--- src/word.rt:18:8
 sub-if1 : tie.Need-sub-if1
 sub-if1 c = search needs
 
--- src/word.rt:19:27
 unfinished-requires : tie.Need-unfinished-requires
 unfinished-requires c κs = search needs
 
--- src/word.rt:19:9
 returns : tie.Need-returns
 returns c = word-short _ _ _ _ (omega arith) (omega arith) (c .unfinished .ensures)
 
--- src/word.rt:21:15
 be32-requires : tie.Need-be32-requires
 be32-requires c κs = search needs
 
--- src/word.rt:21:15
 cast-t9 : tie.Need-cast-t9
 cast-t9 c = search needs
 
--- src/word.rt:21:35
 add-t5 : tie.Need-add-t5
 add-t5 c = search needs
 
--- src/word.rt:13:1
 returns-2 : tie.Need-returns-2
 returns-2 c = word-got _ _ _ _ (omega arith) (c .be32 .ensures)
 

@@ -4,31 +4,22 @@ use mathlib.Core.Path.{sym, ap, _∙_}
 use borrow.Author.Needs.{needs}
 use Rattle.cdf.proofs.word.parse_count.Statement.{statement}
 use Rattle.cdf.proofs.word.parse_count.Tie as tie
-use Rattle.cdf.proofs.word.parse_count.Reads as reads
-use Rattle.cdf.proofs.word.parse_count.Lts as lts
-use Rattle.cdf.proofs.word.parse_non_neg.Reads as parse-non-neg-reads
 
--- src/word.rt:77:11
 parse-non-neg-requires : tie.Need-parse-non-neg-requires
 parse-non-neg-requires c κs = search needs
 
--- src/word.rt:78:20
 enum-known-k : tie.Need-enum-known-k
 enum-known-k c = search needs
 
--- src/word.rt:79:19
 enum-known-v : tie.Need-enum-known-v
 enum-known-v c = search needs
 
--- src/word.rt:73:1
 returns : tie.Need-returns
 returns c = count-stop _ _ _ _ _ (ap ofWord (sym (c .before .k .given .1)) ∙ c .before .before .before .parse-non-neg .ensures)
 
--- src/word.rt:73:1
 returns-2 : tie.Need-returns-2
 returns-2 c = count-got _ _ _ _ _ (ap ofWord (sym (c .before .before .v .given .1)) ∙ c .before .before .before .before .parse-non-neg .ensures) (c .if1 .taken)
 
--- src/word.rt:73:1
 returns-3 : tie.Need-returns-3
 returns-3 c = count-bad _ _ _ _ _ (ap ofWord (sym (c .before .before .v .given .1)) ∙ c .before .before .before .before .parse-non-neg .ensures) (c .if1 .left)
 

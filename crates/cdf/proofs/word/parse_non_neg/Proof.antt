@@ -4,31 +4,22 @@ use mathlib.Core.Path.{sym, ap, _∙_}
 use borrow.Author.Needs.{needs}
 use Rattle.cdf.proofs.word.parse_non_neg.Statement.{statement}
 use Rattle.cdf.proofs.word.parse_non_neg.Tie as tie
-use Rattle.cdf.proofs.word.parse_non_neg.Reads as reads
-use Rattle.cdf.proofs.word.parse_non_neg.Lts as lts
-use Rattle.cdf.proofs.word.four_bytes.Reads as four-bytes-reads
 
--- src/word.rt:40:11
 four-bytes-requires : tie.Need-four-bytes-requires
 four-bytes-requires c κs = search needs
 
--- src/word.rt:41:20
 enum-known-k : tie.Need-enum-known-k
 enum-known-k c = search needs
 
--- src/word.rt:42:19
 enum-known-v : tie.Need-enum-known-v
 enum-known-v c = search needs
 
--- src/word.rt:36:1
 returns : tie.Need-returns
 returns c = nonNegative-stop _ _ _ _ (ap ofWord (sym (c .before .k .given .1)) ∙ c .before .before .before .four-bytes .ensures)
 
--- src/word.rt:36:1
 returns-2 : tie.Need-returns-2
 returns-2 c = nonNegative-got _ _ _ _ (ap ofWord (sym (c .before .before .v .given .1)) ∙ c .before .before .before .before .four-bytes .ensures) (c .if1 .taken)
 
--- src/word.rt:36:1
 returns-3 : tie.Need-returns-3
 returns-3 c = nonNegative-bad _ _ _ _ (ap ofWord (sym (c .before .before .v .given .1)) ∙ c .before .before .before .before .four-bytes .ensures) (c .if1 .left)
 

@@ -1,51 +1,37 @@
 use native.Mathlib.Omega.{arith}
 use Rattle.cdf.proofs.Laws.Word.{offset-stop, offset-got, word-is, offset-8}
-use Rattle.cdf.proofs.Laws.Number.{extended-low, extended-high, extended-8, be-fits}
+use Rattle.cdf.proofs.Laws.Number.{extended-low, extended-high, be-fits}
 use borrow.Author.Tests.{eq-eqb, ne-eqb}
 use Rattle.cdf.specs.Word.{ofWord}
-use mathlib.Core.Bool.{cond}
 use mathlib.Core.Path.{sym, ap, _∙_}
 use borrow.Author.Needs.{needs}
 use Rattle.cdf.proofs.word.parse_offset.Statement.{statement}
 use Rattle.cdf.proofs.word.parse_offset.Tie as tie
-use Rattle.cdf.proofs.word.parse_offset.Reads as reads
-use Rattle.cdf.proofs.word.parse_offset.Lts as lts
-use Rattle.cdf.proofs.word.eight_bytes.Reads as eight-bytes-reads
-use Rattle.cdf.proofs.word.four_bytes.Reads as four-bytes-reads
 
--- src/word.rt:95:9
 eight-bytes-requires : tie.Need-eight-bytes-requires
 eight-bytes-requires c κs = search needs
 
--- src/word.rt:95:9
 returns : tie.Need-returns
 returns c = rw (ne-eqb _ 1 (c .before .if1 .taken)) (c .eight-bytes .ensures ∙ offset-8 _ _ _)
 
--- src/word.rt:97:11
 four-bytes-requires : tie.Need-four-bytes-requires
 four-bytes-requires c κs = search needs
 
--- src/word.rt:98:20
 enum-known-k : tie.Need-enum-known-k
 enum-known-k c = search needs
 
--- src/word.rt:99:19
 enum-known-v : tie.Need-enum-known-v
 enum-known-v c = search needs
 
--- src/word.rt:103:27
 add-t14 : tie.Need-add-t14
 add-t14 c = let a = c .before .before .before .before .before .before .before .args in let e = ap ofWord (sym (c .before .before .v .given .1)) ∙ c .before .before .before .before .four-bytes .ensures in omega (arith, word-is 4 _ _ _ e, be-fits (a .s .now) (λ i. c .before .before .before .before .before .before .shared-slice-known .given i .fits) 4 (a .at))
 
--- src/word.rt:90:1
 returns-2 : tie.Need-returns-2
 returns-2 c = rw (eq-eqb _ 1 (c .before .before .before .before .if1 .left)) (offset-stop _ _ _ _ (ap ofWord (sym (c .before .k .given .1)) ∙ c .before .before .before .four-bytes .ensures))
 
--- src/word.rt:90:1
 returns-3 : tie.Need-returns-3
 returns-3 c = rw (eq-eqb _ 1 (c .before .before .before .before .before .if1 .left)) (offset-got _ _ _ _ (ap ofWord (sym (c .before .before .v .given .1)) ∙ c .before .before .before .before .four-bytes .ensures) (extended-low 4 _ (c .if2 .taken)))
 
--- src/word.rt:90:1
 returns-4 : tie.Need-returns-4
 returns-4 c = rw (eq-eqb _ 1 (c .before .before .before .before .before .if1 .left)) (offset-got _ _ _ _ (ap ofWord (sym (c .before .before .v .given .1)) ∙ c .before .before .before .before .four-bytes .ensures) (extended-high 4 _ (c .if2 .left)))
 

@@ -4,35 +4,25 @@ use mathlib.Core.Path.{sym, ap, _∙_}
 use borrow.Author.Needs.{needs}
 use Rattle.cdf.proofs.word.parse_open_count.Statement.{statement}
 use Rattle.cdf.proofs.word.parse_open_count.Tie as tie
-use Rattle.cdf.proofs.word.parse_open_count.Reads as reads
-use Rattle.cdf.proofs.word.parse_open_count.Lts as lts
-use Rattle.cdf.proofs.word.four_bytes.Reads as four-bytes-reads
 
--- src/word.rt:57:11
 four-bytes-requires : tie.Need-four-bytes-requires
 four-bytes-requires c κs = search needs
 
--- src/word.rt:58:20
 enum-known-k : tie.Need-enum-known-k
 enum-known-k c = search needs
 
--- src/word.rt:59:19
 enum-known-v : tie.Need-enum-known-v
 enum-known-v c = search needs
 
--- src/word.rt:61:17
 returns : tie.Need-returns
 returns c = openCount-got _ _ _ _ (ap ofWord (sym (c .before .before .v .given .1)) ∙ c .before .before .before .before .four-bytes .ensures) (c .if1 .taken)
 
--- src/word.rt:53:1
 returns-2 : tie.Need-returns-2
 returns-2 c = openCount-stop _ _ _ _ (ap ofWord (sym (c .before .k .given .1)) ∙ c .before .before .before .four-bytes .ensures)
 
--- src/word.rt:53:1
 returns-3 : tie.Need-returns-3
 returns-3 c = openCount-open _ _ _ _ (ap ofWord (sym (c .before .before .before .v .given .1)) ∙ c .before .before .before .before .before .four-bytes .ensures) (c .if2 .taken)
 
--- src/word.rt:53:1
 returns-4 : tie.Need-returns-4
 returns-4 c = openCount-bad _ _ _ _ (ap ofWord (sym (c .before .before .before .v .given .1)) ∙ c .before .before .before .before .before .four-bytes .ensures) (c .before .if1 .left) (c .if2 .left)
 

@@ -3,7 +3,7 @@ use Prim.Native.Nat.{_-_, _*_}
 use mathlib.Core.Path.{_∙_}
 use native.Mathlib.Omega.{arith}
 use mir.Syntax.{w16}
-use lib.ListN.{length, length-set}
+use lib.ListN.{length-set}
 use Rattle.decode.specs.Values.{short, values}
 use Rattle.decode.proofs.Laws.Values.{stored}
 use Rattle.decode.proofs.Laws.Halves.{first-half, second-half}

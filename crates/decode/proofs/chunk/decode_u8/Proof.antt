@@ -1,6 +1,5 @@
 use borrow.Author.Needs.{needs}
 use Prim.Native.Nat.{_-_}
-use mathlib.Core.Path.{sym}
 use lib.ListN.{length}
 use Rattle.decode.specs.Values.{number, values}
 use Rattle.decode.proofs.Laws.Values.{one-byte}

@@ -1,5 +1,4 @@
 use borrow.Author.Needs.{needs}
-use native.Mathlib.Omega.{arith}
 use lib.Ieee.{binary64}
 use Rattle.decode.proofs.Laws.Values.{nan-pattern, no-nan-pattern}
 use Rattle.decode.proofs.pattern.f64_of.Statement.{statement}

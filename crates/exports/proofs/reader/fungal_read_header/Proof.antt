@@ -6,62 +6,46 @@ use lib.ListN.{length, length-set}
 use borrow.Author.Needs.{needs}
 use Rattle.exports.proofs.reader.fungal_read_header.Statement.{statement}
 use Rattle.exports.proofs.reader.fungal_read_header.Tie as tie
-use Rattle.exports.proofs.reader.fungal_read_header.Reads as reads
-use Rattle.exports.proofs.reader.fungal_read_header.Lts as lts
-use Rattle.header.proofs.reader.read_header.Reads as read-header-reads
 
--- src/reader.rt:10:9
 returns : tie.Need-returns
 returns c =
     let d = now (c .before .before .before .args .numbers) in
     let l : length d < 8 = omega arith in
     (answered-short _ _ d l, written-short _ _ d l)
 
--- src/reader.rt:16:9
 read-header-requires : tie.Need-read-header-requires
 read-header-requires c κs = search needs
 
--- src/reader.rt:18:5
 slice-write-numbers : tie.Need-slice-write-numbers
 slice-write-numbers c = search needs
 
--- src/reader.rt:19:5
 slice-write-numbers-2 : tie.Need-slice-write-numbers-2
 slice-write-numbers-2 c = simp length-set (omega arith)
 
--- src/reader.rt:20:5
 slice-write-numbers-3 : tie.Need-slice-write-numbers-3
 slice-write-numbers-3 c = simp length-set (omega arith)
 
--- src/reader.rt:21:18
 cast-numbers : tie.Need-cast-numbers
 cast-numbers c = search needs
 
--- src/reader.rt:21:5
 slice-write-numbers-4 : tie.Need-slice-write-numbers-4
 slice-write-numbers-4 c = simp length-set (omega arith)
 
--- src/reader.rt:22:5
 slice-write-numbers-5 : tie.Need-slice-write-numbers-5
 slice-write-numbers-5 c = simp length-set (omega arith)
 
--- src/reader.rt:23:5
 slice-write-numbers-6 : tie.Need-slice-write-numbers-6
 slice-write-numbers-6 c = simp length-set (omega arith)
 
--- src/reader.rt:24:5
 slice-write-numbers-7 : tie.Need-slice-write-numbers-7
 slice-write-numbers-7 c = simp length-set (omega arith)
 
--- src/reader.rt:25:5
 slice-write-numbers-8 : tie.Need-slice-write-numbers-8
 slice-write-numbers-8 c = simp length-set (omega arith)
 
--- src/reader.rt:7:1
 same-length : tie.Need-same-length
 same-length c = search needs
 
--- src/reader.rt:7:1
 returns-2 : tie.Need-returns-2
 returns-2 c =
     let d = now (c .before .before .before .before .before .args .numbers) in

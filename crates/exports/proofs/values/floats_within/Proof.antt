@@ -5,43 +5,31 @@ use Rattle.exports.proofs.Laws.Room.{every-record, no-record, no-room, 
 use borrow.Author.Needs.{needs}
 use Rattle.exports.proofs.values.floats_within.Statement.{statement}
 use Rattle.exports.proofs.values.floats_within.Tie as tie
-use Rattle.exports.proofs.values.floats_within.Reads as reads
-use Rattle.exports.proofs.values.floats_within.Lts as lts
-use Rattle.exports.proofs.values.product_within.Reads as product-within-reads
 
--- src/values.rt:31:9
 returns : tie.Need-returns
 returns c = λ e. (no-room _ _ _ (c .if1 .taken), no-record _ _ _ _ (c .if1 .taken))
 
--- src/values.rt:34:9
 returns-2 : tie.Need-returns-2
 returns-2 c = λ e. never e
 
--- src/values.rt:36:9
 product-within-requires : tie.Need-product-within-requires
 product-within-requires c κs = search needs
 
--- src/values.rt:37:9
 returns-3 : tie.Need-returns-3
 returns-3 c = λ e. never e
 
--- src/values.rt:39:20
 sub-product-within : tie.Need-sub-product-within
 sub-product-within c = search needs
 
--- src/values.rt:39:45
 mul-product-within : tie.Need-mul-product-within
 mul-product-within c = search needs
 
--- src/values.rt:39:39
 sub-product-within-2 : tie.Need-sub-product-within-2
 sub-product-within-2 c = search needs
 
--- src/values.rt:39:5
 product-within-requires-2 : tie.Need-product-within-requires-2
 product-within-requires-2 c κs = search needs
 
--- src/values.rt:27:1
 returns-4 : tie.Need-returns-4
 returns-4 c = λ e. (leb-true _ _ (sym (c .before .before .product-within .ensures) ∙ not-false _ (c .before .if3 .left)), every-record _ _ _ _ (omega arith) (sym (c .product-within2 .ensures) ∙ e))
 

@@ -8,30 +8,22 @@ use Rattle.exports.proofs.Laws.Decoded.{fitting-no, decoded-no, fitting
 use borrow.Author.Needs.{needs}
 use Rattle.exports.proofs.values.fungal_decode_f64.Statement.{statement}
 use Rattle.exports.proofs.values.fungal_decode_f64.Tie as tie
-use Rattle.exports.proofs.values.fungal_decode_f64.Reads as reads
-use Rattle.exports.proofs.values.fungal_decode_f64.Lts as lts
-use Rattle.decode.proofs.chunk.decode_f64.Reads as decode-f64-reads
 
--- src/values.rt:104:21
 mul-if1 : tie.Need-mul-if1
 mul-if1 c = search needs
 
--- src/values.rt:105:9
 returns : tie.Need-returns
 returns c =
     let a = c .before .before .before .args in
     let no : (length (now (a .src)) ≡ 8 * length (now (a .out)) → ⊥) = λ e. c .if1 .taken (omega arith) in
     (fitting-no double 8 (now (a .src)) (now (a .out)) no, decoded-no double 8 _ _ no)
 
--- src/values.rt:107:5
 decode-f64-requires : tie.Need-decode-f64-requires
 decode-f64-requires c κs = search needs
 
--- src/values.rt:100:1
 same-length : tie.Need-same-length
 same-length c = search needs
 
--- src/values.rt:100:1
 returns-2 : tie.Need-returns-2
 returns-2 c =
     let a = c .before .before .before .before .before .before .before .args in

@@ -8,30 +8,22 @@ use Rattle.exports.proofs.Laws.Decoded.{fitting-no, decoded-no, fitting
 use borrow.Author.Needs.{needs}
 use Rattle.exports.proofs.values.fungal_decode_i16.Statement.{statement}
 use Rattle.exports.proofs.values.fungal_decode_i16.Tie as tie
-use Rattle.exports.proofs.values.fungal_decode_i16.Reads as reads
-use Rattle.exports.proofs.values.fungal_decode_i16.Lts as lts
-use Rattle.decode.proofs.chunk.decode_i16.Reads as decode-i16-reads
 
--- src/values.rt:71:21
 mul-if1 : tie.Need-mul-if1
 mul-if1 c = search needs
 
--- src/values.rt:72:9
 returns : tie.Need-returns
 returns c =
     let a = c .before .before .args in
     let no : (length (now (a .src)) ≡ 2 * length (now (a .out)) → ⊥) = λ e. c .if1 .taken (omega arith) in
     (fitting-no short 2 (now (a .src)) (now (a .out)) no, decoded-no short 2 _ _ no)
 
--- src/values.rt:74:5
 decode-i16-requires : tie.Need-decode-i16-requires
 decode-i16-requires c κs = search needs
 
--- src/values.rt:67:1
 same-length : tie.Need-same-length
 same-length c = search needs
 
--- src/values.rt:67:1
 returns-2 : tie.Need-returns-2
 returns-2 c =
     let a = c .before .before .before .before .before .args in

@@ -8,30 +8,22 @@ use Rattle.exports.proofs.Laws.Decoded.{fitting-no, decoded-no, fitting
 use borrow.Author.Needs.{needs}
 use Rattle.exports.proofs.values.fungal_decode_u32.Statement.{statement}
 use Rattle.exports.proofs.values.fungal_decode_u32.Tie as tie
-use Rattle.exports.proofs.values.fungal_decode_u32.Reads as reads
-use Rattle.exports.proofs.values.fungal_decode_u32.Lts as lts
-use Rattle.decode.proofs.chunk.decode_u32.Reads as decode-u32-reads
 
--- src/values.rt:115:21
 mul-if1 : tie.Need-mul-if1
 mul-if1 c = search needs
 
--- src/values.rt:116:9
 returns : tie.Need-returns
 returns c =
     let a = c .before .before .before .args in
     let no : (length (now (a .src)) ≡ 4 * length (now (a .out)) → ⊥) = λ e. c .if1 .taken (omega arith) in
     (fitting-no number 4 (now (a .src)) (now (a .out)) no, decoded-no number 4 _ _ no)
 
--- src/values.rt:118:5
 decode-u32-requires : tie.Need-decode-u32-requires
 decode-u32-requires c κs = search needs
 
--- src/values.rt:111:1
 same-length : tie.Need-same-length
 same-length c = search needs
 
--- src/values.rt:111:1
 returns-2 : tie.Need-returns-2
 returns-2 c =
     let a = c .before .before .before .before .before .before .before .args in

@@ -8,26 +8,19 @@ use Rattle.exports.proofs.Laws.Decoded.{fitting-no, decoded-no, fitting
 use borrow.Author.Needs.{needs}
 use Rattle.exports.proofs.values.fungal_decode_u8.Statement.{statement}
 use Rattle.exports.proofs.values.fungal_decode_u8.Tie as tie
-use Rattle.exports.proofs.values.fungal_decode_u8.Reads as reads
-use Rattle.exports.proofs.values.fungal_decode_u8.Lts as lts
-use Rattle.decode.proofs.chunk.decode_u8.Reads as decode-u8-reads
 
--- src/values.rt:61:9
 returns : tie.Need-returns
 returns c =
     let a = c .before .before .before .args in
     let no : (length (now (a .src)) ≡ 1 * length (now (a .out)) → ⊥) = λ e. c .if1 .taken (omega arith) in
     (fitting-no number 1 (now (a .src)) (now (a .out)) no, decoded-no number 1 _ _ no)
 
--- src/values.rt:63:5
 decode-u8-requires : tie.Need-decode-u8-requires
 decode-u8-requires c κs = search needs
 
--- src/values.rt:56:1
 same-length : tie.Need-same-length
 same-length c = search needs
 
--- src/values.rt:56:1
 returns-2 : tie.Need-returns-2
 returns-2 c =
     let a = c .before .before .before .before .before .before .before .args in

@@ -3,18 +3,13 @@ use Rattle.exports.proofs.Laws.Room.{product-zero, product-div}
 use borrow.Author.Needs.{needs}
 use Rattle.exports.proofs.values.product_within.Statement.{statement}
 use Rattle.exports.proofs.values.product_within.Tie as tie
-use Rattle.exports.proofs.values.product_within.Reads as reads
-use Rattle.exports.proofs.values.product_within.Lts as lts
 
--- src/values.rt:21:9
 returns : tie.Need-returns
 returns c = product-zero _ _ _ (c .if1 .taken)
 
--- src/values.rt:23:10
 div-result : tie.Need-div-result
 div-result c = search needs
 
--- src/values.rt:17:1
 returns-2 : tie.Need-returns-2
 returns-2 c = let a = c .before .args in product-div (a .a) (a .b) (a .n) (omega arith)
 

@@ -1,86 +1,63 @@
 use Rattle.cdf.specs.Values.{values}
-use Rattle.cdf.specs.Step.{Step}
 use Rattle.grammar.specs.Attrs.{attrValues}
 use Rattle.grammar.proofs.Laws.Lists.{size-high}
 use Rattle.cdf.proofs.Laws.Word.{nonNegative-ends, nonNegative-below}
 use Rattle.cdf.proofs.Laws.Types.{type-ends}
 use Rattle.cdf.proofs.Laws.Step.{got-ends, by-got, by-stop}
-use Rattle.cdf.specs.Types.{ofTyped, sizeOf}
+use Rattle.cdf.specs.Types.{ofTyped}
 use Rattle.cdf.specs.Magic.{ofNext}
 use Rattle.cdf.specs.Word.{ofWord}
 use Prim.Native.Nat.{ℕ, _≤_}
-use mathlib.Core.Path.{refl, sym, ap, subst, _∙_, _≡_}
+use mathlib.Core.Path.{refl, sym, ap, subst, _∙_}
 use borrow.Author.Needs.{needs}
 use Rattle.grammar.proofs.attrs.parse_attr_values.Statement.{statement}
 use Rattle.grammar.proofs.attrs.parse_attr_values.Tie as tie
-use Rattle.grammar.proofs.attrs.parse_attr_values.Reads as reads
-use Rattle.grammar.proofs.attrs.parse_attr_values.Lts as lts
-use Rattle.cdf.proofs.types.DataType.code.Reads as code-reads
-use Rattle.cdf.proofs.types.DataType.size_of.Reads as size-of-reads
-use Rattle.cdf.proofs.types.parse_data_type.Reads as parse-data-type-reads
-use Rattle.cdf.proofs.values.parse_typed_data_elements.Reads as parse-typed-data-elements-reads
-use Rattle.cdf.proofs.word.parse_non_neg.Reads as parse-non-neg-reads
 
--- src/attrs.rt:29:11
 parse-data-type-requires : tie.Need-parse-data-type-requires
 parse-data-type-requires c κs = search needs
 
--- src/attrs.rt:30:21
 enum-known-k : tie.Need-enum-known-k
 enum-known-k c = search needs
 
--- src/attrs.rt:31:20
 enum-known-kind : tie.Need-enum-known-kind
 enum-known-kind c = search needs
 
--- src/attrs.rt:31:41
 parse-non-neg-requires : tie.Need-parse-non-neg-requires
 parse-non-neg-requires c κs = got-ends (ap ofTyped (sym (c .before .kind .given .1)) ∙ c .before .before .before .parse-data-type .ensures) (type-ends _ _ _ _)
 
--- src/attrs.rt:32:24
 enum-known-k-2 : tie.Need-enum-known-k-2
 enum-known-k-2 c = search needs
 
--- src/attrs.rt:33:23
 enum-known-count : tie.Need-enum-known-count
 enum-known-count c = search needs
 
--- src/attrs.rt:34:73
 size-of-requires : tie.Need-size-of-requires
 size-of-requires c κs = search needs
 
--- src/attrs.rt:34:23
 parse-typed-data-elements-requires : tie.Need-parse-typed-data-elements-requires
 parse-typed-data-elements-requires c κs = let e = ap ofWord (sym (c .before .before .count .given .1)) ∙ c .before .before .before .before .parse-non-neg .ensures in (got-ends e (nonNegative-ends _ _ _ _), nonNegative-below _ _ _ _ e, subst (λ (n : ℕ). n ≤ 8) (sym (c .size-of .ensures)) (size-high (c .before .before .before .before .before .before .kind .given .0 .0)))
 
--- src/attrs.rt:35:32
 enum-known-k-3 : tie.Need-enum-known-k-3
 enum-known-k-3 c = search needs
 
--- src/attrs.rt:36:30
 enum-known-end : tie.Need-enum-known-end
 enum-known-end c = search needs
 
--- src/attrs.rt:40:35
 code-requires : tie.Need-code-requires
 code-requires c κs = search needs
 
--- src/attrs.rt:25:1
 returns : tie.Need-returns
 unfolding attrValues
 returns c = by-stop _ (ap ofTyped (sym (c .before .k .given .1)) ∙ c .before .before .before .parse-data-type .ensures)
 
--- src/attrs.rt:25:1
 returns-2 : tie.Need-returns-2
 unfolding attrValues
 returns-2 c = by-got _ _ (ap ofTyped (sym (c .before .before .before .before .before .kind .given .1)) ∙ c .before .before .before .before .before .before .before .parse-data-type .ensures) (by-stop _ (ap ofWord (sym (c .before .k2 .given .1)) ∙ c .before .before .before .parse-non-neg .ensures))
 
--- src/attrs.rt:25:1
 returns-3 : tie.Need-returns-3
 unfolding attrValues
 returns-3 c = by-got _ _ (ap ofTyped (sym (c .before .before .before .before .before .before .before .before .before .before .kind .given .1)) ∙ c .before .before .before .before .before .before .before .before .before .before .before .before .parse-data-type .ensures) (by-got _ _ (ap ofWord (sym (c .before .before .before .before .before .before .count .given .1)) ∙ c .before .before .before .before .before .before .before .before .parse-non-neg .ensures) (by-stop _ (ap ofNext (sym (c .before .k3 .given .1)) ∙ c .before .before .before .parse-typed-data-elements .ensures ∙ ap (λ (w : ℕ). values (c .before .before .before .before .before .before .count .given .0 .0) w (c .before .before .before .before .before .before .before .before .before .before .before .before .before .before .args .s .now) (c .before .before .before .before .before .before .before .before .before .before .before .before .before .before .args .size) (c .before .before .before .before .before .before .count .given .0 .1 .0)) (c .before .before .before .before .size-of .ensures))))
 
--- src/attrs.rt:25:1
 returns-4 : tie.Need-returns-4
 unfolding attrValues
 returns-4 c = by-got _ _ (ap ofTyped (sym (c .before .before .before .before .before .before .before .before .before .before .before .kind .given .1)) ∙ c .before .before .before .before .before .before .before .before .before .before .before .before .before .parse-data-type .ensures) (by-got _ _ (ap ofWord (sym (c .before .before .before .before .before .before .before .count .given .1)) ∙ c .before .before .before .before .before .before .before .before .before .parse-non-neg .ensures) (by-got _ _ (ap ofNext (sym (c .before .before .end .given .1)) ∙ c .before .before .before .before .parse-typed-data-elements .ensures ∙ ap (λ (w : ℕ). values (c .before .before .before .before .before .before .before .count .given .0 .0) w (c .before .before .before .before .before .before .before .before .before .before .before .before .before .before .before .args .s .now) (c .before .before .before .before .before .before .before .before .before .before .before .before .before .before .before .args .size) (c .before .before .before .before .before .before .before .count .given .0 .1 .0)) (c .before .before .before .before .before .size-of .ensures)) (rw (c .code .ensures) refl)))

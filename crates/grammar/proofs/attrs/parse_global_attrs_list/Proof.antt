@@ -12,13 +12,9 @@ use lib.ListN.{length}
 use native.Mathlib.Nat.{sub-zero}
 use native.Mathlib.Omega.{arith}
 use mathlib.Core.Path.{_≡_, refl, sym, ap, _∙_}
-use Prim.Native.Nat.{ℕ, _+_, _-_, _≤_, _<_}
+use Prim.Native.Nat.{_+_, _-_, _≤_}
 use Rattle.grammar.proofs.attrs.parse_global_attrs_list.Statement.{statement}
 use Rattle.grammar.proofs.attrs.parse_global_attrs_list.Tie as tie
-use Rattle.grammar.proofs.attrs.parse_global_attrs_list.Reads as reads
-use Rattle.grammar.proofs.attrs.parse_global_attrs_list.Lts as lts
-use Rattle.grammar.proofs.attrs.parse_attr.Reads as parse-attr-reads
-use Rattle.grammar.proofs.attrs.parse_attr_count.Reads as parse-attr-count-reads
 
 abbrev Inv-loop : tie.InvT-loop
 Inv-loop s size at version t₀ used n next end₀ i₀ t end i = (end ≤ length s) × (i ≤ n) × (t .nattrs + (n - i) ≤ 128) × (many (attrStep (form version) s size) n t₀ end₀ ≡ many (attrStep (form version) s size) (n - i) t end) × (t .nvars ≡ t₀ .nvars) × Within t
@@ -26,19 +22,15 @@ Inv-loop s size at version t₀ used n next end₀ i₀ t end i = (end ≤ lengt
 abbrev μ-loop : tie.MeasureT-loop
 μ-loop s size at version t₀ used n next end₀ i₀ t end i = n - i
 
--- src/attrs.rt:84:11
 parse-attr-count-requires : tie.Need-parse-attr-count-requires Inv-loop μ-loop
 parse-attr-count-requires c κs = search needs
 
--- src/attrs.rt:85:20
 enum-known-k : tie.Need-enum-known-k Inv-loop μ-loop
 enum-known-k c = search needs
 
--- src/attrs.rt:89:19
 enum-known-n : tie.Need-enum-known-n Inv-loop μ-loop
 enum-known-n c = search needs
 
--- src/attrs.rt:92:13
 loop-holds : tie.Need-loop-holds Inv-loop μ-loop
 loop-holds c =
     let e = ap ofWord (sym (c .before .n .given .1)) ∙ c .before .before .before .parse-attr-count .ensures in
@@ -51,15 +43,12 @@ loop-holds c =
       w,
     )
 
--- src/attrs.rt:93:23
 parse-attr-requires : tie.Need-parse-attr-requires Inv-loop μ-loop
 parse-attr-requires c κs = search needs
 
--- src/attrs.rt:94:36
 enum-known-k-2 : tie.Need-enum-known-k-2 Inv-loop μ-loop
 enum-known-k-2 c = search needs
 
--- src/attrs.rt:95:25
 returns : tie.Need-returns Inv-loop μ-loop
 unfolding globalList attrStep
 returns c =
@@ -70,31 +59,24 @@ returns c =
       l .inv .5,
     )
 
--- src/attrs.rt:100:35
 enum-known-a : tie.Need-enum-known-a Inv-loop μ-loop
 enum-known-a c = search needs
 
--- src/attrs.rt:102:25
 mul-a : tie.Need-mul-a Inv-loop μ-loop
 mul-a c = search needs
 
--- src/attrs.rt:102:25
 element-set-from-a : tie.Need-element-set-from-a Inv-loop μ-loop
 element-set-from-a c = search needs
 
--- src/attrs.rt:103:36
 add-t : tie.Need-add-t Inv-loop μ-loop
 add-t c = search needs
 
--- src/attrs.rt:107:17
 add-i : tie.Need-add-i Inv-loop μ-loop
 add-i c = search needs
 
--- src/attrs.rt:92:13
 loop-less : tie.Need-loop-less Inv-loop μ-loop
 loop-less c = search needs
 
--- src/attrs.rt:92:13
 loop-again : tie.Need-loop-again Inv-loop μ-loop
 unfolding attrStep
 loop-again c =
@@ -108,12 +90,10 @@ loop-again c =
       within-attr _ (l .inv .5) _ (omega arith),
     )
 
--- src/attrs.rt:78:1
 returns-2 : tie.Need-returns-2 Inv-loop μ-loop
 unfolding globalList
 returns-2 c = (by-stop _ (ap ofWord (sym (c .before .k .given .1)) ∙ c .before .before .before .parse-attr-count .ensures), refl, c .before .before .before .before .before .pre .1)
 
--- src/attrs.rt:78:1
 returns-3 : tie.Need-returns-3 Inv-loop μ-loop
 unfolding globalList
 returns-3 c =

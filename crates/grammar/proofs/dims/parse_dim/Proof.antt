@@ -6,50 +6,36 @@ use mathlib.Core.Path.{refl, sym, ap, _∙_}
 use borrow.Author.Needs.{needs}
 use Rattle.grammar.proofs.dims.parse_dim.Statement.{statement}
 use Rattle.grammar.proofs.dims.parse_dim.Tie as tie
-use Rattle.grammar.proofs.dims.parse_dim.Reads as reads
-use Rattle.grammar.proofs.dims.parse_dim.Lts as lts
-use Rattle.cdf.proofs.name.parse_name_string.Reads as parse-name-string-reads
-use Rattle.cdf.proofs.word.parse_non_neg.Reads as parse-non-neg-reads
 
--- src/dims.rt:24:11
 parse-name-string-requires : tie.Need-parse-name-string-requires
 parse-name-string-requires c κs = search needs
 
--- src/dims.rt:25:20
 enum-known-k : tie.Need-enum-known-k
 enum-known-k c = search needs
 
--- src/dims.rt:26:19
 enum-known-chars : tie.Need-enum-known-chars
 enum-known-chars c = search needs
 
--- src/dims.rt:26:41
 parse-non-neg-requires : tie.Need-parse-non-neg-requires
 parse-non-neg-requires c κs = got-ends (ap ofWord (sym (c .before .chars .given .1)) ∙ c .before .before .before .parse-name-string .ensures) (name-ends _ _ _ _)
 
--- src/dims.rt:27:24
 enum-known-k-2 : tie.Need-enum-known-k-2
 enum-known-k-2 c = search needs
 
--- src/dims.rt:28:23
 enum-known-length : tie.Need-enum-known-length
 enum-known-length c = search needs
 
--- src/dims.rt:30:27
 add-t17 : tie.Need-add-t17
 add-t17 c = search needs
 
--- src/dims.rt:20:1
 returns : tie.Need-returns
 unfolding dim
 returns c = by-stop _ (ap ofWord (sym (c .before .k .given .1)) ∙ c .before .before .before .parse-name-string .ensures)
 
--- src/dims.rt:20:1
 returns-2 : tie.Need-returns-2
 unfolding dim
 returns-2 c = by-got _ _ (ap ofWord (sym (c .before .before .before .before .before .chars .given .1)) ∙ c .before .before .before .before .before .before .before .parse-name-string .ensures) (by-stop _ (ap ofWord (sym (c .before .k2 .given .1)) ∙ c .before .before .before .parse-non-neg .ensures))
 
--- src/dims.rt:20:1
 returns-3 : tie.Need-returns-3
 unfolding dim
 returns-3 c = by-got _ _ (ap ofWord (sym (c .before .before .before .before .before .chars .given .1)) ∙ c .before .before .before .before .before .before .before .parse-name-string .ensures) (by-got _ _ (ap ofWord (sym (c .before .length .given .1)) ∙ c .before .before .before .parse-non-neg .ensures) refl)

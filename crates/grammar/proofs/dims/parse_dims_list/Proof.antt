@@ -12,13 +12,9 @@ use lib.ListN.{length}
 use native.Mathlib.Nat.{sub-zero}
 use native.Mathlib.Omega.{arith}
 use mathlib.Core.Path.{_≡_, refl, sym, ap, _∙_}
-use Prim.Native.Nat.{ℕ, _+_, _-_, _≤_, _<_}
+use Prim.Native.Nat.{_+_, _-_, _≤_}
 use Rattle.grammar.proofs.dims.parse_dims_list.Statement.{statement}
 use Rattle.grammar.proofs.dims.parse_dims_list.Tie as tie
-use Rattle.grammar.proofs.dims.parse_dims_list.Reads as reads
-use Rattle.grammar.proofs.dims.parse_dims_list.Lts as lts
-use Rattle.cdf.proofs.list.parse_list_start.Reads as parse-list-start-reads
-use Rattle.grammar.proofs.dims.parse_dim.Reads as parse-dim-reads
 
 abbrev Inv-loop : tie.InvT-loop
 Inv-loop s size at version t₀ n next end₀ i₀ t end i = (end ≤ length s) × (i ≤ n) × (t .ndims + (n - i) ≤ 32) × (many (dimStep (form version) s size) n t₀ end₀ ≡ many (dimStep (form version) s size) (n - i) t end) × (t .nvars ≡ t₀ .nvars) × Within t
@@ -26,19 +22,15 @@ Inv-loop s size at version t₀ n next end₀ i₀ t end i = (end ≤ length s) 
 abbrev μ-loop : tie.MeasureT-loop
 μ-loop s size at version t₀ n next end₀ i₀ t end i = n - i
 
--- src/dims.rt:50:11
 parse-list-start-requires : tie.Need-parse-list-start-requires Inv-loop μ-loop
 parse-list-start-requires c κs = search needs
 
--- src/dims.rt:51:20
 enum-known-k : tie.Need-enum-known-k Inv-loop μ-loop
 enum-known-k c = search needs
 
--- src/dims.rt:55:19
 enum-known-n : tie.Need-enum-known-n Inv-loop μ-loop
 enum-known-n c = search needs
 
--- src/dims.rt:58:13
 loop-holds : tie.Need-loop-holds Inv-loop μ-loop
 loop-holds c =
     let e = ap ofWord (sym (c .before .n .given .1)) ∙ c .before .before .before .parse-list-start .ensures in
@@ -51,15 +43,12 @@ loop-holds c =
       p .2,
     )
 
--- src/dims.rt:59:23
 parse-dim-requires : tie.Need-parse-dim-requires Inv-loop μ-loop
 parse-dim-requires c κs = search needs
 
--- src/dims.rt:60:35
 enum-known-k-2 : tie.Need-enum-known-k-2 Inv-loop μ-loop
 enum-known-k-2 c = search needs
 
--- src/dims.rt:61:25
 returns : tie.Need-returns Inv-loop μ-loop
 unfolding dimList dimStep
 returns c =
@@ -70,31 +59,24 @@ returns c =
       l .inv .5,
     )
 
--- src/dims.rt:66:34
 enum-known-d : tie.Need-enum-known-d Inv-loop μ-loop
 enum-known-d c = search needs
 
--- src/dims.rt:68:25
 mul-d : tie.Need-mul-d Inv-loop μ-loop
 mul-d c = search needs
 
--- src/dims.rt:68:25
 element-set-from-d : tie.Need-element-set-from-d Inv-loop μ-loop
 element-set-from-d c = search needs
 
--- src/dims.rt:69:35
 add-t : tie.Need-add-t Inv-loop μ-loop
 add-t c = search needs
 
--- src/dims.rt:73:17
 add-i : tie.Need-add-i Inv-loop μ-loop
 add-i c = search needs
 
--- src/dims.rt:58:13
 loop-less : tie.Need-loop-less Inv-loop μ-loop
 loop-less c = search needs
 
--- src/dims.rt:58:13
 loop-again : tie.Need-loop-again Inv-loop μ-loop
 unfolding dimStep
 loop-again c =
@@ -108,12 +90,10 @@ loop-again c =
       within-dim _ (l .inv .5) _ (omega arith),
     )
 
--- src/dims.rt:45:1
 returns-2 : tie.Need-returns-2 Inv-loop μ-loop
 unfolding dimList
 returns-2 c = (by-stop _ (ap ofWord (sym (c .before .k .given .1)) ∙ c .before .before .before .parse-list-start .ensures), refl, c .before .before .before .before .before .pre .2)
 
--- src/dims.rt:45:1
 returns-3 : tie.Need-returns-3 Inv-loop μ-loop
 unfolding dimList
 returns-3 c =

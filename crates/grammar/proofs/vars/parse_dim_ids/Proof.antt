@@ -9,12 +9,9 @@ use lib.ListN.{length}
 use native.Mathlib.Nat.{sub-zero}
 use native.Mathlib.Omega.{arith}
 use mathlib.Core.Path.{_≡_, refl, sym, ap, _∙_}
-use Prim.Native.Nat.{ℕ, _+_, _-_, _≤_, _<_}
+use Prim.Native.Nat.{_+_, _-_, _≤_}
 use Rattle.grammar.proofs.vars.parse_dim_ids.Statement.{statement}
 use Rattle.grammar.proofs.vars.parse_dim_ids.Tie as tie
-use Rattle.grammar.proofs.vars.parse_dim_ids.Reads as reads
-use Rattle.grammar.proofs.vars.parse_dim_ids.Lts as lts
-use Rattle.cdf.proofs.word.parse_non_neg.Reads as parse-non-neg-reads
 
 abbrev Inv-loop : tie.InvT-loop
 Inv-loop s size at version n v₀ at₀ i₀ v at' i = (at' ≤ length s) × (i ≤ n) × (v .rank + (n - i) ≤ 8) × (many (dimid (form version) s size) n v₀ at₀ ≡ many (dimid (form version) s size) (n - i) v at')
@@ -22,19 +19,15 @@ Inv-loop s size at version n v₀ at₀ i₀ v at' i = (at' ≤ length s) × (i 
 abbrev μ-loop : tie.MeasureT-loop
 μ-loop s size at version n v₀ at₀ i₀ v at' i = n - i
 
--- src/vars.rt:52:5
 loop-holds : tie.Need-loop-holds Inv-loop μ-loop
 loop-holds c = (c .before .pre .0, omega arith, omega arith, rw sub-zero)
 
--- src/vars.rt:53:15
 parse-non-neg-requires : tie.Need-parse-non-neg-requires Inv-loop μ-loop
 parse-non-neg-requires c κs = search needs
 
--- src/vars.rt:54:24
 enum-known-k : tie.Need-enum-known-k Inv-loop μ-loop
 enum-known-k c = search needs
 
--- src/vars.rt:55:17
 returns : tie.Need-returns Inv-loop μ-loop
 unfolding dimid
 returns c =
@@ -43,35 +36,27 @@ returns c =
       omega arith,
     )
 
--- src/vars.rt:60:23
 enum-known-id : tie.Need-enum-known-id Inv-loop μ-loop
 enum-known-id c = search needs
 
--- src/vars.rt:62:28
 cast-v : tie.Need-cast-v Inv-loop μ-loop
 cast-v c = omega (arith, nonNegative-below 4 _ _ _ (ap ofWord (sym (c .before .id .given .1)) ∙ c .before .before .before .parse-non-neg .ensures))
 
--- src/vars.rt:62:17
 mul-v : tie.Need-mul-v Inv-loop μ-loop
 mul-v c = search needs
 
--- src/vars.rt:62:17
 element-write-v : tie.Need-element-write-v Inv-loop μ-loop
 element-write-v c = search needs
 
--- src/vars.rt:63:26
 add-v : tie.Need-add-v Inv-loop μ-loop
 add-v c = search needs
 
--- src/vars.rt:67:9
 add-i : tie.Need-add-i Inv-loop μ-loop
 add-i c = search needs
 
--- src/vars.rt:52:5
 loop-less : tie.Need-loop-less Inv-loop μ-loop
 loop-less c = search needs
 
--- src/vars.rt:52:5
 loop-again : tie.Need-loop-again Inv-loop μ-loop
 unfolding dimid
 loop-again c =
@@ -83,7 +68,6 @@ loop-again c =
       l .inv .3 ∙ many-more _ _ _ _ _ (c .before .before .before .before .loop-test .taken) (by-got _ _ e refl),
     )
 
--- src/vars.rt:45:1
 returns-2 : tie.Need-returns-2 Inv-loop μ-loop
 returns-2 c = let l = c .before .loop in (many-done _ _ _ _ _ (omega arith) ∙ sym (l .inv .3), omega arith)
 

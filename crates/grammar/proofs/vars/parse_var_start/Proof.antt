@@ -5,50 +5,37 @@ use Rattle.cdf.proofs.Laws.Step.{got-ends, by-got, by-stop}
 use Rattle.cdf.specs.declared.step.Next.{Next}
 use Rattle.cdf.specs.Word.{ofWord}
 use native.Mathlib.Omega.{arith}
-use mathlib.Core.Path.{_≡_, refl, sym, ap, _∙_}
+use mathlib.Core.Path.{refl, sym, ap, _∙_}
 use borrow.Author.Needs.{needs}
 use Rattle.grammar.proofs.vars.parse_var_start.Statement.{statement}
 use Rattle.grammar.proofs.vars.parse_var_start.Tie as tie
-use Rattle.grammar.proofs.vars.parse_var_start.Reads as reads
-use Rattle.grammar.proofs.vars.parse_var_start.Lts as lts
-use Rattle.grammar.proofs.attrs.parse_attr_count.Reads as parse-attr-count-reads
-use Rattle.grammar.proofs.vars.parse_var_head.Reads as parse-var-head-reads
 
--- src/vars.rt:166:9
 parse-var-head-requires : tie.Need-parse-var-head-requires
 parse-var-head-requires c κs = search needs
 
--- src/vars.rt:170:20
 enum-known-next : tie.Need-enum-known-next
 enum-known-next c = search needs
 
--- src/vars.rt:175:18
 enum-known-next-2 : tie.Need-enum-known-next-2
 enum-known-next-2 c = search needs
 
--- src/vars.rt:175:33
 parse-attr-count-requires : tie.Need-parse-attr-count-requires
 parse-attr-count-requires c κs = (got-ends (ap (λ (x : Next). ofRow x (c .before .before .before .before .parse-var-head .result .row)) (sym (c .before .next2 .given .1)) ∙ c .before .before .before .before .parse-var-head .ensures .0) (varHead-ends _ _ _ _), c .before .before .before .before .before .before .pre .1)
 
--- src/vars.rt:176:24
 enum-known-k : tie.Need-enum-known-k
 enum-known-k c = search needs
 
--- src/vars.rt:181:23
 enum-known-count : tie.Need-enum-known-count
 enum-known-count c = search needs
 
--- src/vars.rt:162:1
 returns : tie.Need-returns
 unfolding varStart
 returns c = (by-stop _ (ap (λ (x : Next). ofRow x (c .before .before .before .before .parse-var-head .result .row)) (sym (c .before .next .given .1)) ∙ c .before .before .before .before .parse-var-head .ensures .0), c .before .before .before .before .parse-var-head .ensures .1, omega arith)
 
--- src/vars.rt:162:1
 returns-2 : tie.Need-returns-2
 unfolding varStart
 returns-2 c = (by-got _ _ (ap (λ (x : Next). ofRow x (c .before .before .before .before .before .before .before .before .parse-var-head .result .row)) (sym (c .before .before .before .before .before .next2 .given .1)) ∙ c .before .before .before .before .before .before .before .before .parse-var-head .ensures .0) (by-stop _ (ap ofWord (sym (c .before .k .given .1)) ∙ c .before .before .before .parse-attr-count .ensures)), c .before .before .before .before .before .before .before .before .parse-var-head .ensures .1, omega arith)
 
--- src/vars.rt:162:1
 returns-3 : tie.Need-returns-3
 unfolding varStart
 returns-3 c = let e = ap ofWord (sym (c .before .count .given .1)) ∙ c .before .before .before .parse-attr-count .ensures in (by-got _ _ (ap (λ (x : Next). ofRow x (c .before .before .before .before .before .before .before .before .parse-var-head .result .row)) (sym (c .before .before .before .before .before .next2 .given .1)) ∙ c .before .before .before .before .before .before .before .before .parse-var-head .ensures .0) (by-got _ _ e refl), c .before .before .before .before .before .before .before .before .parse-var-head .ensures .1, omega (arith, start-within 8 4 12 _ _ _ _ e))

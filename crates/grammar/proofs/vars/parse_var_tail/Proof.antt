@@ -4,74 +4,53 @@ use Rattle.cdf.proofs.Laws.Types.{type-ends}
 use Rattle.cdf.proofs.Laws.Step.{got-ends, by-got, by-stop}
 use Rattle.cdf.specs.Types.{ofTyped}
 use Rattle.cdf.specs.Word.{ofWord}
-use Rattle.cdf.specs.Step.{got}
 use mathlib.Core.Path.{refl, sym, ap, _∙_}
 use borrow.Author.Needs.{needs}
 use Rattle.grammar.proofs.vars.parse_var_tail.Statement.{statement}
 use Rattle.grammar.proofs.vars.parse_var_tail.Tie as tie
-use Rattle.grammar.proofs.vars.parse_var_tail.Reads as reads
-use Rattle.grammar.proofs.vars.parse_var_tail.Lts as lts
-use Rattle.cdf.proofs.types.DataType.code.Reads as code-reads
-use Rattle.cdf.proofs.types.parse_data_type.Reads as parse-data-type-reads
-use Rattle.cdf.proofs.word.parse_offset.Reads as parse-offset-reads
-use Rattle.cdf.proofs.word.parse_open_count.Reads as parse-open-count-reads
 
--- src/vars.rt:119:11
 parse-data-type-requires : tie.Need-parse-data-type-requires
 parse-data-type-requires c κs = search needs
 
--- src/vars.rt:120:21
 enum-known-k : tie.Need-enum-known-k
 enum-known-k c = search needs
 
--- src/vars.rt:121:20
 enum-known-kind : tie.Need-enum-known-kind
 enum-known-kind c = search needs
 
--- src/vars.rt:121:47
 parse-open-count-requires : tie.Need-parse-open-count-requires
 parse-open-count-requires c κs = got-ends (ap ofTyped (sym (c .before .kind .given .1)) ∙ c .before .before .before .parse-data-type .ensures) (type-ends _ _ _ _)
 
--- src/vars.rt:122:24
 enum-known-k-2 : tie.Need-enum-known-k-2
 enum-known-k-2 c = search needs
 
--- src/vars.rt:123:23
 enum-known-vsize : tie.Need-enum-known-vsize
 enum-known-vsize c = search needs
 
--- src/vars.rt:123:52
 parse-offset-requires : tie.Need-parse-offset-requires
 parse-offset-requires c κs = got-ends (ap ofWord (sym (c .before .vsize .given .1)) ∙ c .before .before .before .parse-open-count .ensures) (openCount-ends _ _ _ _)
 
--- src/vars.rt:124:28
 enum-known-k-3 : tie.Need-enum-known-k-3
 enum-known-k-3 c = search needs
 
--- src/vars.rt:125:27
 enum-known-begin : tie.Need-enum-known-begin
 enum-known-begin c = search needs
 
--- src/vars.rt:127:31
 code-requires : tie.Need-code-requires
 code-requires c κs = search needs
 
--- src/vars.rt:115:1
 returns : tie.Need-returns
 unfolding varTail
 returns c = by-stop _ (ap ofTyped (sym (c .before .k .given .1)) ∙ c .before .before .before .parse-data-type .ensures)
 
--- src/vars.rt:115:1
 returns-2 : tie.Need-returns-2
 unfolding varTail
 returns-2 c = by-got _ _ (ap ofTyped (sym (c .before .before .before .before .before .kind .given .1)) ∙ c .before .before .before .before .before .before .before .parse-data-type .ensures) (by-stop _ (ap ofWord (sym (c .before .k2 .given .1)) ∙ c .before .before .before .parse-open-count .ensures))
 
--- src/vars.rt:115:1
 returns-3 : tie.Need-returns-3
 unfolding varTail
 returns-3 c = by-got _ _ (ap ofTyped (sym (c .before .before .before .before .before .before .before .before .before .kind .given .1)) ∙ c .before .before .before .before .before .before .before .before .before .before .before .parse-data-type .ensures) (by-got _ _ (ap ofWord (sym (c .before .before .before .before .before .vsize .given .1)) ∙ c .before .before .before .before .before .before .before .parse-open-count .ensures) (by-stop _ (ap ofWord (sym (c .before .k3 .given .1)) ∙ c .before .before .before .parse-offset .ensures)))
 
--- src/vars.rt:115:1
 returns-4 : tie.Need-returns-4
 unfolding varTail
 returns-4 c = by-got _ _ (ap ofTyped (sym (c .before .before .before .before .before .before .before .before .before .before .kind .given .1)) ∙ c .before .before .before .before .before .before .before .before .before .before .before .before .parse-data-type .ensures) (by-got _ _ (ap ofWord (sym (c .before .before .before .before .before .before .vsize .given .1)) ∙ c .before .before .before .before .before .before .before .before .parse-open-count .ensures) (by-got _ _ (ap ofWord (sym (c .before .before .begin .given .1)) ∙ c .before .before .before .before .parse-offset .ensures) (rw (c .code .ensures) refl)))

@@ -13,16 +13,9 @@ use lib.ListN.{length}
 use native.Mathlib.Nat.{sub-zero}
 use native.Mathlib.Omega.{arith}
 use mathlib.Core.Path.{_≡_, refl, sym, ap, subst, _∙_}
-use Prim.Native.Nat.{ℕ, _+_, _-_, _≤_, _<_}
+use Prim.Native.Nat.{_+_, _-_, _≤_}
 use Rattle.grammar.proofs.vars.parse_vars.Statement.{statement}
 use Rattle.grammar.proofs.vars.parse_vars.Tie as tie
-use Rattle.grammar.proofs.vars.parse_vars.Reads as reads
-use Rattle.grammar.proofs.vars.parse_vars.Lts as lts
-use Rattle.grammar.proofs.attrs.parse_attr.Reads as parse-attr-reads
-use Rattle.grammar.proofs.vars.joined.Reads as joined-reads
-use Rattle.grammar.proofs.vars.parse_var_start.Reads as parse-var-start-reads
-use Rattle.grammar.proofs.vars.parse_var_tail.Reads as parse-var-tail-reads
-use Rattle.grammar.proofs.vars.stopped.Reads as stopped-reads
 
 abbrev Inv-loop2 : tie.InvT-loop2
 Inv-loop2 s size at version n t₀ at₀ i first start count j₀ t at' j = (at' ≤ length s) × (j ≤ count) × (t .nattrs + (count - j) ≤ 128) × (many (attrStep (form version) s size) count t₀ at₀ ≡ many (attrStep (form version) s size) (count - j) t at') × (t .nvars ≡ t₀ .nvars) × Within t
@@ -36,23 +29,18 @@ Inv-loop s size at version n t₀ at₀ i₀ t at' i = (at' ≤ length s) × (i 
 abbrev μ-loop : tie.MeasureT-loop
 μ-loop s size at version n t₀ at₀ i₀ t at' i = n - i
 
--- src/vars.rt:199:5
 loop-holds : tie.Need-loop-holds Inv-loop2 μ-loop2 Inv-loop μ-loop
 loop-holds c = (c .before .pre .0, omega arith, omega arith, rw sub-zero, c .before .pre .2)
 
--- src/vars.rt:201:13
 parse-var-start-requires : tie.Need-parse-var-start-requires Inv-loop2 μ-loop2 Inv-loop μ-loop
 parse-var-start-requires c κs = let l = c .before .loop in (l .inv .0, l .inv .4 .attrs)
 
--- src/vars.rt:204:24
 enum-known-next : tie.Need-enum-known-next Inv-loop2 μ-loop2 Inv-loop μ-loop
 enum-known-next c = search needs
 
--- src/vars.rt:204:33
 stopped-requires : tie.Need-stopped-requires Inv-loop2 μ-loop2 Inv-loop μ-loop
 stopped-requires c κs = c .before .before .before .before .before .loop .inv .4
 
--- src/vars.rt:204:33
 returns : tie.Need-returns Inv-loop2 μ-loop2 Inv-loop μ-loop
 returns c =
     let l = c .before .before .before .before .before .before .loop in
@@ -63,11 +51,9 @@ returns c =
       c .stopped .ensures .1,
     )
 
--- src/vars.rt:205:22
 enum-known-next-2 : tie.Need-enum-known-next-2 Inv-loop2 μ-loop2 Inv-loop μ-loop
 enum-known-next-2 c = search needs
 
--- src/vars.rt:209:9
 loop2-holds : tie.Need-loop2-holds Inv-loop2 μ-loop2 Inv-loop μ-loop
 loop2-holds c =
     let l = c .before .before .before .before .before .loop in
@@ -80,19 +66,15 @@ loop2-holds c =
       l .inv .4,
     )
 
--- src/vars.rt:210:19
 parse-attr-requires : tie.Need-parse-attr-requires Inv-loop2 μ-loop2 Inv-loop μ-loop
 parse-attr-requires c κs = search needs
 
--- src/vars.rt:211:32
 enum-known-k : tie.Need-enum-known-k Inv-loop2 μ-loop2 Inv-loop μ-loop
 enum-known-k c = search needs
 
--- src/vars.rt:211:41
 stopped-requires-2 : tie.Need-stopped-requires-2 Inv-loop2 μ-loop2 Inv-loop μ-loop
 stopped-requires-2 c κs = c .before .before .before .before .before .loop2 .inv .5
 
--- src/vars.rt:211:41
 returns-2 : tie.Need-returns-2 Inv-loop2 μ-loop2 Inv-loop μ-loop
 unfolding attrStep
 returns-2 c =
@@ -107,31 +89,24 @@ returns-2 c =
       c .stopped2 .ensures .1,
     )
 
--- src/vars.rt:212:31
 enum-known-a : tie.Need-enum-known-a Inv-loop2 μ-loop2 Inv-loop μ-loop
 enum-known-a c = search needs
 
--- src/vars.rt:214:21
 mul-a : tie.Need-mul-a Inv-loop2 μ-loop2 Inv-loop μ-loop
 mul-a c = search needs
 
--- src/vars.rt:214:21
 element-set-from-a : tie.Need-element-set-from-a Inv-loop2 μ-loop2 Inv-loop μ-loop
 element-set-from-a c = search needs
 
--- src/vars.rt:215:32
 add-t : tie.Need-add-t Inv-loop2 μ-loop2 Inv-loop μ-loop
 add-t c = search needs
 
--- src/vars.rt:219:13
 add-j : tie.Need-add-j Inv-loop2 μ-loop2 Inv-loop μ-loop
 add-j c = search needs
 
--- src/vars.rt:209:9
 loop2-less : tie.Need-loop2-less Inv-loop2 μ-loop2 Inv-loop μ-loop
 loop2-less c = search needs
 
--- src/vars.rt:209:9
 loop2-again : tie.Need-loop2-again Inv-loop2 μ-loop2 Inv-loop μ-loop
 unfolding attrStep
 loop2-again c =
@@ -145,19 +120,15 @@ loop2-again c =
       within-attr _ (m .inv .5) _ (omega arith),
     )
 
--- src/vars.rt:221:15
 parse-var-tail-requires : tie.Need-parse-var-tail-requires Inv-loop2 μ-loop2 Inv-loop μ-loop
 parse-var-tail-requires c κs = search needs
 
--- src/vars.rt:222:28
 enum-known-k-2 : tie.Need-enum-known-k-2 Inv-loop2 μ-loop2 Inv-loop μ-loop
 enum-known-k-2 c = search needs
 
--- src/vars.rt:222:37
 stopped-requires-3 : tie.Need-stopped-requires-3 Inv-loop2 μ-loop2 Inv-loop μ-loop
 stopped-requires-3 c κs = c .before .before .before .before .before .loop2 .inv .5
 
--- src/vars.rt:222:37
 returns-3 : tie.Need-returns-3 Inv-loop2 μ-loop2 Inv-loop μ-loop
 returns-3 c =
     let l = c .before .before .before .before .before .before .before .before .before .before .before .before .loop in
@@ -172,35 +143,27 @@ returns-3 c =
       c .stopped3 .ensures .1,
     )
 
--- src/vars.rt:223:27
 enum-known-tail : tie.Need-enum-known-tail Inv-loop2 μ-loop2 Inv-loop μ-loop
 enum-known-tail c = search needs
 
--- src/vars.rt:226:29
 joined-requires : tie.Need-joined-requires Inv-loop2 μ-loop2 Inv-loop μ-loop
 joined-requires c κs = search needs
 
--- src/vars.rt:226:17
 mul-t40 : tie.Need-mul-t40 Inv-loop2 μ-loop2 Inv-loop μ-loop
 mul-t40 c = search needs
 
--- src/vars.rt:226:17
 element-set-from-t : tie.Need-element-set-from-t Inv-loop2 μ-loop2 Inv-loop μ-loop
 element-set-from-t c = search needs
 
--- src/vars.rt:227:27
 add-t-2 : tie.Need-add-t-2 Inv-loop2 μ-loop2 Inv-loop μ-loop
 add-t-2 c = search needs
 
--- src/vars.rt:231:9
 add-i : tie.Need-add-i Inv-loop2 μ-loop2 Inv-loop μ-loop
 add-i c = omega (arith, c .before .before .before .before .before .before .before .before .before .before .before .before .loop-test .taken, c .before .before .before .before .before .before .before .before .before .before .before .before .before .before .before .fits .n)
 
--- src/vars.rt:199:5
 loop-less : tie.Need-loop-less Inv-loop2 μ-loop2 Inv-loop μ-loop
 loop-less c = search needs
 
--- src/vars.rt:199:5
 loop-again : tie.Need-loop-again Inv-loop2 μ-loop2 Inv-loop μ-loop
 loop-again c =
     let l = c .before .before .before .before .before .before .before .before .before .before .before .before .before .loop in
@@ -220,7 +183,6 @@ loop-again c =
       within-var _ (m .inv .5) _ (omega (arith, c .before .before .before .before .before .before .before .before .before .before .before .before .loop-test .taken, l .inv .2, m .inv .4)) row,
     )
 
--- src/vars.rt:192:1
 returns-4 : tie.Need-returns-4 Inv-loop2 μ-loop2 Inv-loop μ-loop
 returns-4 c = let l = c .before .loop in (many-done _ _ _ _ _ (omega arith) ∙ sym (l .inv .3), l .inv .4)
 

@@ -3,42 +3,30 @@ use Rattle.cdf.proofs.Laws.ListStart.{start-ends, start-within}
 use Rattle.cdf.proofs.Laws.Step.{got-ends, by-got, by-stop}
 use Rattle.cdf.specs.Word.{ofWord}
 use native.Mathlib.Omega.{arith}
-use mathlib.Core.Path.{_≡_, refl, sym, ap, _∙_}
+use mathlib.Core.Path.{sym, ap, _∙_}
 use borrow.Author.Needs.{needs}
 use Rattle.grammar.proofs.vars.parse_vars_list.Statement.{statement}
 use Rattle.grammar.proofs.vars.parse_vars_list.Tie as tie
-use Rattle.grammar.proofs.vars.parse_vars_list.Reads as reads
-use Rattle.grammar.proofs.vars.parse_vars_list.Lts as lts
-use Rattle.cdf.proofs.list.parse_list_start.Reads as parse-list-start-reads
-use Rattle.grammar.proofs.vars.parse_vars.Reads as parse-vars-reads
-use Rattle.grammar.proofs.vars.stopped.Reads as stopped-reads
 
--- src/vars.rt:244:11
 parse-list-start-requires : tie.Need-parse-list-start-requires
 parse-list-start-requires c κs = search needs
 
--- src/vars.rt:245:20
 enum-known-k : tie.Need-enum-known-k
 enum-known-k c = search needs
 
--- src/vars.rt:245:29
 stopped-requires : tie.Need-stopped-requires
 stopped-requires c κs = search needs
 
--- src/vars.rt:246:19
 enum-known-n : tie.Need-enum-known-n
 enum-known-n c = search needs
 
--- src/vars.rt:246:31
 parse-vars-requires : tie.Need-parse-vars-requires
 parse-vars-requires c κs = let e = ap ofWord (sym (c .before .n .given .1)) ∙ c .before .before .before .parse-list-start .ensures in (got-ends e (start-ends _ _ _ _ _ _ _), omega (arith, start-within _ _ _ 64 _ _ _ e), c .before .before .before .before .before .pre .2)
 
--- src/vars.rt:240:1
 returns : tie.Need-returns
 unfolding varList
 returns c = (c .stopped .ensures .0 ∙ by-stop _ (ap ofWord (sym (c .before .before .k .given .1)) ∙ c .before .before .before .before .parse-list-start .ensures), c .stopped .ensures .1)
 
--- src/vars.rt:240:1
 returns-2 : tie.Need-returns-2
 unfolding varList
 returns-2 c = (by-got _ _ (ap ofWord (sym (c .before .before .n .given .1)) ∙ c .before .before .before .before .parse-list-start .ensures) (c .parse-vars .ensures .0), c .parse-vars .ensures .1)

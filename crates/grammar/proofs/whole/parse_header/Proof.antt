@@ -6,108 +6,77 @@ use Rattle.cdf.proofs.Laws.Step.{got-ends, by-got, by-stop}
 use Rattle.cdf.specs.Magic.{ofNext}
 use Rattle.cdf.specs.Word.{ofWord}
 use native.Mathlib.Omega.{arith}
-use mathlib.Core.Path.{_≡_, refl, sym, ap, _∙_}
+use mathlib.Core.Path.{sym, ap, _∙_}
 use borrow.Author.Needs.{needs}
 use Rattle.grammar.proofs.whole.parse_header.Statement.{statement}
 use Rattle.grammar.proofs.whole.parse_header.Tie as tie
-use Rattle.grammar.proofs.whole.parse_header.Reads as reads
-use Rattle.grammar.proofs.whole.parse_header.Lts as lts
-use Rattle.cdf.proofs.version.parse_magic_word.Reads as parse-magic-word-reads
-use Rattle.cdf.proofs.version.parse_version.Reads as parse-version-reads
-use Rattle.cdf.proofs.word.parse_open_count.Reads as parse-open-count-reads
-use Rattle.grammar.proofs.whole.parse_lists.Reads as parse-lists-reads
-use Rattle.grammar.proofs.tables.blank.Reads as blank-reads
-use Rattle.grammar.proofs.tables.started.Reads as started-reads
-use Rattle.grammar.proofs.vars.stopped.Reads as stopped-reads
 
--- src/whole.rt:47:11
 parse-magic-word-requires : tie.Need-parse-magic-word-requires
 parse-magic-word-requires c κs = search needs
 
--- src/whole.rt:48:20
 enum-known-k : tie.Need-enum-known-k
 enum-known-k c = search needs
 
--- src/whole.rt:48:43
 blank-requires : tie.Need-blank-requires
 blank-requires c κs = search needs
 
--- src/whole.rt:48:29
 stopped-requires : tie.Need-stopped-requires
 stopped-requires c κs = within-blank (c .blank .ensures)
 
--- src/whole.rt:49:18
 enum-known-version-at : tie.Need-enum-known-version-at
 enum-known-version-at c = search needs
 
--- src/whole.rt:49:39
 parse-version-requires : tie.Need-parse-version-requires
 parse-version-requires c κs = got-ends (ap ofNext (sym (c .before .version-at .given .1)) ∙ c .before .before .before .parse-magic-word .ensures) (magic-ends _ _)
 
--- src/whole.rt:50:24
 enum-known-k-2 : tie.Need-enum-known-k-2
 enum-known-k-2 c = search needs
 
--- src/whole.rt:50:47
 blank-requires-2 : tie.Need-blank-requires-2
 blank-requires-2 c κs = search needs
 
--- src/whole.rt:50:33
 stopped-requires-2 : tie.Need-stopped-requires-2
 stopped-requires-2 c κs = within-blank (c .blank2 .ensures)
 
--- src/whole.rt:51:23
 enum-known-version : tie.Need-enum-known-version
 enum-known-version c = search needs
 
--- src/whole.rt:51:51
 parse-open-count-requires : tie.Need-parse-open-count-requires
 parse-open-count-requires c κs = got-ends (ap ofWord (sym (c .before .version .given .1)) ∙ c .before .before .before .parse-version .ensures) (version-ends _ _ _ _)
 
--- src/whole.rt:52:28
 enum-known-k-3 : tie.Need-enum-known-k-3
 enum-known-k-3 c = search needs
 
--- src/whole.rt:52:51
 blank-requires-3 : tie.Need-blank-requires-3
 blank-requires-3 c κs = search needs
 
--- src/whole.rt:52:37
 stopped-requires-3 : tie.Need-stopped-requires-3
 stopped-requires-3 c κs = within-blank (c .blank3 .ensures)
 
--- src/whole.rt:53:27
 enum-known-word : tie.Need-enum-known-word
 enum-known-word c = search needs
 
--- src/whole.rt:54:29
 cast-v : tie.Need-cast-v
 cast-v c = let e = ap ofWord (sym (c .before .before .before .before .before .version .given .1)) ∙ c .before .before .before .before .before .before .before .parse-version .ensures in omega (arith, version-is _ _ _ _ e, c .before .before .before .before .before .before .before .before .before .before .before .before .shared-slice-known .given (c .before .before .before .before .before .before .before .before .before .version-at .given .0 .0))
 
--- src/whole.rt:55:55
 started-requires : tie.Need-started-requires
 started-requires c κs = search needs
 
--- src/whole.rt:55:21
 parse-lists-requires : tie.Need-parse-lists-requires
 parse-lists-requires c κs = let e = started-empty _ _ _ (c .started .ensures) in (got-ends (ap ofWord (sym (c .before .before .word .given .1)) ∙ c .before .before .before .before .parse-open-count .ensures) (openCount-ends _ _ _ _), e .0, e .1, e .2)
 
--- src/whole.rt:44:1
 returns : tie.Need-returns
 unfolding header
 returns c = (c .stopped .ensures .0 ∙ by-stop _ (ap ofNext (sym (c .before .before .before .k .given .1)) ∙ c .before .before .before .before .before .parse-magic-word .ensures), c .stopped .ensures .1)
 
--- src/whole.rt:44:1
 returns-2 : tie.Need-returns-2
 unfolding header
 returns-2 c = (c .stopped2 .ensures .0 ∙ by-got _ _ (ap ofNext (sym (c .before .before .before .before .before .before .before .version-at .given .1)) ∙ c .before .before .before .before .before .before .before .before .before .parse-magic-word .ensures) (by-stop _ (ap ofWord (sym (c .before .before .before .k2 .given .1)) ∙ c .before .before .before .before .before .parse-version .ensures)), c .stopped2 .ensures .1)
 
--- src/whole.rt:44:1
 returns-3 : tie.Need-returns-3
 unfolding header
 returns-3 c = (c .stopped3 .ensures .0 ∙ by-got _ _ (ap ofNext (sym (c .before .before .before .before .before .before .before .before .before .before .before .version-at .given .1)) ∙ c .before .before .before .before .before .before .before .before .before .before .before .before .before .parse-magic-word .ensures) (by-got _ _ (ap ofWord (sym (c .before .before .before .before .before .before .before .version .given .1)) ∙ c .before .before .before .before .before .before .before .before .before .parse-version .ensures) (by-stop _ (ap ofWord (sym (c .before .before .before .k3 .given .1)) ∙ c .before .before .before .before .before .parse-open-count .ensures))), c .stopped3 .ensures .1)
 
--- src/whole.rt:44:1
 returns-4 : tie.Need-returns-4
 unfolding header
 returns-4 c = (by-got _ _ (ap ofNext (sym (c .before .before .before .before .before .before .before .before .before .before .before .version-at .given .1)) ∙ c .before .before .before .before .before .before .before .before .before .before .before .before .before .parse-magic-word .ensures) (by-got _ _ (ap ofWord (sym (c .before .before .before .before .before .before .before .version .given .1)) ∙ c .before .before .before .before .before .before .before .before .before .parse-version .ensures) (by-got _ _ (ap ofWord (sym (c .before .before .before .word .given .1)) ∙ c .before .before .before .before .before .parse-open-count .ensures) (rw (← c .before .started .ensures) (c .parse-lists .ensures .0)))), c .parse-lists .ensures .1)

@@ -3,59 +3,42 @@ use Rattle.grammar.specs.Grammar.{lists}
 use Rattle.grammar.specs.Dims.{ofTables}
 use Rattle.cdf.proofs.Laws.Step.{got-ends, by-got, by-stop}
 use Rattle.cdf.specs.declared.step.Next.{Next}
-use mathlib.Core.Path.{_≡_, refl, sym, ap, _∙_}
+use mathlib.Core.Path.{sym, ap, _∙_}
 use borrow.Author.Needs.{needs}
 use Rattle.grammar.proofs.whole.parse_lists.Statement.{statement}
 use Rattle.grammar.proofs.whole.parse_lists.Tie as tie
-use Rattle.grammar.proofs.whole.parse_lists.Reads as reads
-use Rattle.grammar.proofs.whole.parse_lists.Lts as lts
-use Rattle.grammar.proofs.attrs.parse_global_attrs_list.Reads as parse-global-attrs-list-reads
-use Rattle.grammar.proofs.dims.parse_dims_list.Reads as parse-dims-list-reads
-use Rattle.grammar.proofs.vars.parse_vars_list.Reads as parse-vars-list-reads
-use Rattle.grammar.proofs.vars.stopped.Reads as stopped-reads
 
--- src/whole.rt:26:9
 parse-dims-list-requires : tie.Need-parse-dims-list-requires
 parse-dims-list-requires c κs = search needs
 
--- src/whole.rt:30:20
 enum-known-after-dims : tie.Need-enum-known-after-dims
 enum-known-after-dims c = search needs
 
--- src/whole.rt:30:29
 stopped-requires : tie.Need-stopped-requires
 stopped-requires c κs = c .before .before .before .before .parse-dims-list .ensures .2
 
--- src/whole.rt:31:18
 enum-known-after-dims-2 : tie.Need-enum-known-after-dims-2
 enum-known-after-dims-2 c = search needs
 
--- src/whole.rt:32:17
 parse-global-attrs-list-requires : tie.Need-parse-global-attrs-list-requires
 parse-global-attrs-list-requires c κs = let d = c .before .before .before .before .parse-dims-list in (got-ends (ap (λ (x : Next). ofTables x (d .result .tables)) (sym (c .before .after-dims2 .given .1)) ∙ d .ensures .0) (dimList-ends _ _ _ _ _), d .ensures .2)
 
--- src/whole.rt:36:28
 enum-known-after-globals : tie.Need-enum-known-after-globals
 enum-known-after-globals c = search needs
 
--- src/whole.rt:36:37
 stopped-requires-2 : tie.Need-stopped-requires-2
 stopped-requires-2 c κs = c .before .before .before .before .parse-global-attrs-list .ensures .2
 
--- src/whole.rt:37:26
 enum-known-after-globals-2 : tie.Need-enum-known-after-globals-2
 enum-known-after-globals-2 c = search needs
 
--- src/whole.rt:37:38
 parse-vars-list-requires : tie.Need-parse-vars-list-requires
 parse-vars-list-requires c κs = let g = c .before .before .before .before .parse-global-attrs-list in (got-ends (ap (λ (x : Next). ofTables x (g .result .tables)) (sym (c .before .after-globals2 .given .1)) ∙ g .ensures .0) (globalList-ends _ _ _ _ _), g .ensures .1 ∙ c .before .before .before .before .before .before .before .before .before .parse-dims-list .ensures .1 ∙ c .before .before .before .before .before .before .before .before .before .before .before .pre .2, g .ensures .2)
 
--- src/whole.rt:22:1
 returns : tie.Need-returns
 unfolding lists
 returns c = let d = c .before .before .before .before .before .parse-dims-list in (c .stopped .ensures .0 ∙ by-stop _ (ap (λ (x : Next). ofTables x (d .result .tables)) (sym (c .before .before .after-dims .given .1)) ∙ d .ensures .0), c .stopped .ensures .1)
 
--- src/whole.rt:22:1
 returns-2 : tie.Need-returns-2
 unfolding lists
 returns-2 c =
@@ -67,7 +50,6 @@ returns-2 c =
       c .stopped2 .ensures .1,
     )
 
--- src/whole.rt:22:1
 returns-3 : tie.Need-returns-3
 unfolding lists
 returns-3 c =

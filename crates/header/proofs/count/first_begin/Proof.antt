@@ -1,6 +1,6 @@
-use Prim.Native.Nat.{ℕ, _-_, _≤_, _<_, min}
+use Prim.Native.Nat.{ℕ, _-_, _≤_, min}
 use native.Mathlib.Omega.{arith}
-use mathlib.Core.Path.{_≡_, refl, sym, ap, _∙_}
+use mathlib.Core.Path.{_≡_, ap, _∙_}
 use mathlib.Core.Bool.{Bool, cond}
 use Rattle.grammar.specs.Tables.{varAt}
 use Rattle.header.proofs.Laws.Records.{ids-below}
@@ -9,10 +9,6 @@ use borrow.Author.Needs.{needs}
 use Rattle.header.specs.Records.{isRecord}
 use Rattle.header.proofs.count.first_begin.Statement.{statement}
 use Rattle.header.proofs.count.first_begin.Tie as tie
-use Rattle.header.proofs.count.first_begin.Reads as reads
-use Rattle.header.proofs.count.first_begin.Lts as lts
-use Rattle.header.proofs.count.nearer.Reads as nearer-reads
-use Rattle.header.proofs.records.is_record.Reads as is-record-reads
 
 abbrev Inv-loop : tie.InvT-loop
 Inv-loop t dims vars least₀ i₀ least i = (i ≤ t .nvars) × (least ≡ laws.least t i)
@@ -20,35 +16,27 @@ Inv-loop t dims vars least₀ i₀ least i = (i ≤ t .nvars) × (least ≡ laws
 abbrev μ-loop : tie.MeasureT-loop
 μ-loop t dims vars least₀ i₀ least i = t .nvars - i
 
--- src/count.rt:41:5
 loop-holds : tie.Need-loop-holds Inv-loop μ-loop
 loop-holds c = (omega arith, laws.least-none _)
 
--- src/count.rt:42:17
 mul-v : tie.Need-mul-v Inv-loop μ-loop
 mul-v c = search needs
 
--- src/count.rt:42:17
 array-copy-out-v : tie.Need-array-copy-out-v Inv-loop μ-loop
 array-copy-out-v c = search needs
 
--- src/count.rt:43:24
 is-record-requires : tie.Need-is-record-requires Inv-loop μ-loop
 is-record-requires c κs = let p = c .before .before .before .before .before .before .pre in let r = p .0 .rows _ (c .before .if1 .taken) in (r .rank, ids-below _ (p .1) _ (c .before .if1 .taken) (p .0 .dims))
 
--- src/count.rt:43:9
 nearer-requires : tie.Need-nearer-requires Inv-loop μ-loop
 nearer-requires c κs = search needs
 
--- src/count.rt:44:9
 add-i : tie.Need-add-i Inv-loop μ-loop
 add-i c = search needs
 
--- src/count.rt:41:5
 loop-less : tie.Need-loop-less Inv-loop μ-loop
 loop-less c = search needs
 
--- src/count.rt:41:5
 loop-again : tie.Need-loop-again Inv-loop μ-loop
 loop-again c =
     let t = c .before .before .before .before .before .before .before .before .args .t in
@@ -60,7 +48,6 @@ loop-again c =
           ∙ laws.least-more t (l .i),
     )
 
--- src/count.rt:33:1
 returns : tie.Need-returns Inv-loop μ-loop
 returns c = let l = c .before .before .loop in let t = c .before .before .before .before .before .args .t in let e : l .i ≡ t .nvars = omega arith in l .inv .1 ∙ ap (laws.least t) e ∙ laws.least-all t
 

@@ -2,18 +2,13 @@ use Rattle.header.proofs.Laws.Count.{nearer-out, nearer-less, nearer-ke
 use borrow.Author.Tests.{not-true, not-false}
 use Rattle.header.proofs.count.nearer.Statement.{statement}
 use Rattle.header.proofs.count.nearer.Tie as tie
-use Rattle.header.proofs.count.nearer.Reads as reads
-use Rattle.header.proofs.count.nearer.Lts as lts
 
--- src/count.rt:24:9
 returns : tie.Need-returns
 returns c = nearer-out _ _ _ (not-true (c .before .args .records) (c .if1 .taken))
 
--- src/count.rt:20:1
 returns-2 : tie.Need-returns-2
 returns-2 c = nearer-less _ _ _ (not-false (c .before .before .args .records) (c .before .if1 .left)) (c .if2 .taken)
 
--- src/count.rt:20:1
 returns-3 : tie.Need-returns-3
 returns-3 c = nearer-kept _ _ _ (not-false (c .before .before .args .records) (c .before .if1 .left)) (c .if2 .left)
 

@@ -1,43 +1,30 @@
 use Rattle.header.specs.Count.{divided}
-use Rattle.cdf.specs.Step.{Step}
-use Prim.Native.Nat.{ℕ, _<_}
+use Prim.Native.Nat.{ℕ}
 use Rattle.header.proofs.Laws.Count.{records-some, records-none, count-fixed, count-word, count-none, count-divided}
-use mathlib.Core.Path.{_≡_, refl, sym, ap, subst, _∙_}
+use mathlib.Core.Path.{sym, ap, _∙_}
 use native.Mathlib.Omega.{arith}
 use borrow.Author.Needs.{needs}
 use Rattle.header.proofs.count.record_count.Statement.{statement}
 use Rattle.header.proofs.count.record_count.Tie as tie
-use Rattle.header.proofs.count.record_count.Reads as reads
-use Rattle.header.proofs.count.record_count.Lts as lts
-use Rattle.header.proofs.count.divided.Reads as divided-reads
-use Rattle.header.proofs.count.first_begin.Reads as first-begin-reads
-use Rattle.header.proofs.model.unlimited.Reads as unlimited-reads
 
--- src/count.rt:65:19
 unlimited-requires : tie.Need-unlimited-requires
 unlimited-requires c κs = search needs
 
--- src/count.rt:66:9
 returns : tie.Need-returns
 returns c = count-fixed _ (omega (arith, c .before .before .unlimited .ensures))
 
--- src/count.rt:70:9
 returns-2 : tie.Need-returns-2
 returns-2 c = count-word _ (omega (arith, c .before .before .before .unlimited .ensures)) (c .if2 .taken)
 
--- src/count.rt:73:9
 returns-3 : tie.Need-returns-3
 returns-3 c = count-none _ (omega (arith, c .before .before .before .before .unlimited .ensures)) (c .before .if2 .left) (records-none _ (c .before .before .before .before .before .pre .1) (sym (c .before .before .before .before .before .pre .2) ∙ c .if3 .taken))
 
--- src/count.rt:76:19
 first-begin-requires : tie.Need-first-begin-requires
 first-begin-requires c κs = search needs
 
--- src/count.rt:76:5
 divided-requires : tie.Need-divided-requires
 divided-requires c κs = search needs
 
--- src/count.rt:61:1
 returns-4 : tie.Need-returns-4
 returns-4 c =
     let t = c .before .before .before .before .before .before .before .args .t in

@@ -1,6 +1,6 @@
 use Prim.Native.Nat.{ℕ, _-_, _≤_, _<_}
 use native.Mathlib.Omega.{arith}
-use mathlib.Core.Path.{_≡_, refl, sym, ap, _∙_}
+use mathlib.Core.Path.{_≡_, sym, ap, _∙_}
 use mathlib.Core.Bool.{true}
 use mathlib.Core.Logic.{⊎-elim}
 use borrow.Author.Count.{below-none, below-more}
@@ -11,9 +11,6 @@ use Rattle.header.proofs.Laws.Model.{id-first, id-fixed, id-large, id-l
 use borrow.Author.Needs.{needs}
 use Rattle.header.proofs.model.ids_hold.Statement.{statement}
 use Rattle.header.proofs.model.ids_hold.Tie as tie
-use Rattle.header.proofs.model.ids_hold.Reads as reads
-use Rattle.header.proofs.model.ids_hold.Lts as lts
-use Rattle.header.proofs.model.index.Reads as index-reads
 
 abbrev Inv-loop2 : tie.InvT-loop2
 Inv-loop2 t dims vars i v k₀ k = (k ≤ v .rank) × (v .rank ≤ 8) × ((j : ℕ) → j < k → idHolds t v j ≡ true)
@@ -27,59 +24,45 @@ Inv-loop t dims vars i₀ i = (i ≤ t .nvars) × ((j : ℕ) → j < i → allBe
 abbrev μ-loop : tie.MeasureT-loop
 μ-loop t dims vars i₀ i = t .nvars - i
 
--- src/model.rt:93:5
 loop-holds : tie.Need-loop-holds Inv-loop2 μ-loop2 Inv-loop μ-loop
 loop-holds c = (omega arith, below-none _)
 
--- src/model.rt:94:17
 mul-v : tie.Need-mul-v Inv-loop2 μ-loop2 Inv-loop μ-loop
 mul-v c = search needs
 
--- src/model.rt:94:17
 array-copy-out-v : tie.Need-array-copy-out-v Inv-loop2 μ-loop2 Inv-loop μ-loop
 array-copy-out-v c = search needs
 
--- src/model.rt:96:9
 loop2-holds : tie.Need-loop2-holds Inv-loop2 μ-loop2 Inv-loop μ-loop
 loop2-holds c = (omega arith, c .before .before .before .before .before .before .pre .rows _ (c .before .if1 .taken) .rank, below-none _)
 
--- src/model.rt:97:28
 mul-index : tie.Need-mul-index Inv-loop2 μ-loop2 Inv-loop μ-loop
 mul-index c = search needs
 
--- src/model.rt:97:28
 element-copy-out-index : tie.Need-element-copy-out-index Inv-loop2 μ-loop2 Inv-loop μ-loop
 element-copy-out-index c = search needs
 
--- src/model.rt:97:17
 index-requires : tie.Need-index-requires Inv-loop2 μ-loop2 Inv-loop μ-loop
 index-requires c κs = search needs
 
--- src/model.rt:99:17
 returns : tie.Need-returns Inv-loop2 μ-loop2 Inv-loop μ-loop
 returns c = ids-not _ _ _ (c .before .before .before .before .before .before .before .if1 .taken) (c .before .before .before .before .loop2-test .taken) (id-large _ _ _ (omega (arith, c .before .before .index .ensures)))
 
--- src/model.rt:101:21
 mul-d : tie.Need-mul-d Inv-loop2 μ-loop2 Inv-loop μ-loop
 mul-d c = search needs
 
--- src/model.rt:101:21
 array-copy-out-d : tie.Need-array-copy-out-d Inv-loop2 μ-loop2 Inv-loop μ-loop
 array-copy-out-d c = search needs
 
--- src/model.rt:104:21
 returns-2 : tie.Need-returns-2 Inv-loop2 μ-loop2 Inv-loop μ-loop
 returns-2 c = let t = c .before .before .before .before .before .before .before .before .before .before .before .before .before .before .before .before .args .t in ids-not _ _ _ (c .before .before .before .before .before .before .before .before .before .before .before .if1 .taken) (c .before .before .before .before .before .before .before .before .loop2-test .taken) (id-later _ _ _ (omega (arith, c .before .before .before .before .before .before .index .ensures)) (c .before .before .if3 .taken) (ap (λ (n : ℕ). dimAt t n .length) (sym (c .before .before .before .before .before .before .index .ensures)) ∙ c .if4 .taken))
 
--- src/model.rt:107:13
 add-k : tie.Need-add-k Inv-loop2 μ-loop2 Inv-loop μ-loop
 add-k c = search needs
 
--- src/model.rt:96:9
 loop2-less : tie.Need-loop2-less Inv-loop2 μ-loop2 Inv-loop μ-loop
 loop2-less c = search needs
 
--- src/model.rt:96:9
 loop2-again : tie.Need-loop2-again Inv-loop2 μ-loop2 Inv-loop μ-loop
 loop2-again c =
     let t = c .before .before .before .before .before .before .before .before .before .before .before .before .before .before .args .t in
@@ -95,19 +78,15 @@ loop2-again c =
           (c .if3 .came)),
     )
 
--- src/model.rt:109:9
 add-i : tie.Need-add-i Inv-loop2 μ-loop2 Inv-loop μ-loop
 add-i c = search needs
 
--- src/model.rt:93:5
 loop-less : tie.Need-loop-less Inv-loop2 μ-loop2 Inv-loop μ-loop
 loop-less c = search needs
 
--- src/model.rt:93:5
 loop-again : tie.Need-loop-again Inv-loop2 μ-loop2 Inv-loop μ-loop
 loop-again c = (omega arith, below-more _ _ (c .before .before .before .before .before .loop .inv .1) (row-ids _ _ (λ j l. c .before .loop2 .inv .2 j (omega arith))))
 
--- src/model.rt:86:1
 returns-3 : tie.Need-returns-3 Inv-loop2 μ-loop2 Inv-loop μ-loop
 returns-3 c = ids-all _ (λ j l. c .before .before .loop .inv .1 j (omega arith))
 

@@ -4,33 +4,22 @@ use mathlib.Core.Path.{sym, _∙_}
 use borrow.Author.Needs.{needs}
 use Rattle.header.proofs.model.model_holds.Statement.{statement}
 use Rattle.header.proofs.model.model_holds.Tie as tie
-use Rattle.header.proofs.model.model_holds.Reads as reads
-use Rattle.header.proofs.model.model_holds.Lts as lts
-use Rattle.header.proofs.model.ids_hold.Reads as ids-hold-reads
-use Rattle.header.proofs.model.names_hold.Reads as names-hold-reads
-use Rattle.header.proofs.model.one_unlimited.Reads as one-unlimited-reads
 
--- src/model.rt:102:9
 names-hold-requires : tie.Need-names-hold-requires
 names-hold-requires c κs = search needs
 
--- src/model.rt:103:9
 returns : tie.Need-returns
 returns c = model-names _ _ (sym (c .before .names-hold .ensures) ∙ not-true _ (c .if1 .taken))
 
--- src/model.rt:105:9
 one-unlimited-requires : tie.Need-one-unlimited-requires
 one-unlimited-requires c κs = search needs
 
--- src/model.rt:106:9
 returns-2 : tie.Need-returns-2
 returns-2 c = model-unlimited _ _ (sym (c .before .before .before .names-hold .ensures) ∙ not-false _ (c .before .before .if1 .left)) (sym (c .before .one-unlimited .ensures) ∙ not-true _ (c .if2 .taken))
 
--- src/model.rt:108:5
 ids-hold-requires : tie.Need-ids-hold-requires
 ids-hold-requires c κs = search needs
 
--- src/model.rt:98:1
 returns-3 : tie.Need-returns-3
 returns-3 c = model-ids _ _ (sym (c .before .before .before .before .names-hold .ensures) ∙ not-false _ (c .before .before .before .if1 .left)) (sym (c .before .before .one-unlimited .ensures) ∙ not-false _ (c .before .if2 .left)) (c .ids-hold .ensures)
 

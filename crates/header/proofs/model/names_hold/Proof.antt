@@ -10,11 +10,6 @@ use borrow.Author.Tests.{not-true, not-false}
 use Rattle.header.proofs.Laws.Model.{names-dims, names-vars, names-globals, names-own, names-all}
 use Rattle.header.proofs.model.names_hold.Statement.{statement}
 use Rattle.header.proofs.model.names_hold.Tie as tie
-use Rattle.header.proofs.model.names_hold.Reads as reads
-use Rattle.header.proofs.model.names_hold.Lts as lts
-use Rattle.header.proofs.names.attr_names_hold.Reads as attr-names-hold-reads
-use Rattle.header.proofs.names.dim_names_hold.Reads as dim-names-hold-reads
-use Rattle.header.proofs.names.var_names_hold.Reads as var-names-hold-reads
 
 abbrev Inv-loop : tie.InvT-loop
 Inv-loop s t globals vars i₀ i = (i ≤ t .nvars) × (distinct s (dimNames t) (t .ndims) ≡ true) × (distinct s (varNames t) (t .nvars) ≡ true) × (distinct s (attrNames t 0) (t .globals) ≡ true) × ((k : ℕ) → k < i → distinct s (attrNames t (varAt t k .first)) (varAt t k .attrs) ≡ true)
@@ -22,63 +17,48 @@ Inv-loop s t globals vars i₀ i = (i ≤ t .nvars) × (distinct s (dimNames t) 
 abbrev μ-loop : tie.MeasureT-loop
 μ-loop s t globals vars i₀ i = t .nvars - i
 
--- src/model.rt:18:9
 dim-names-hold-requires : tie.Need-dim-names-hold-requires Inv-loop μ-loop
 dim-names-hold-requires c κs = search needs
 
--- src/model.rt:19:9
 returns : tie.Need-returns Inv-loop μ-loop
 returns c = names-dims _ _ (sym (c .before .dim-names-hold .ensures) ∙ not-true _ (c .if1 .taken))
 
--- src/model.rt:21:9
 var-names-hold-requires : tie.Need-var-names-hold-requires Inv-loop μ-loop
 var-names-hold-requires c κs = search needs
 
--- src/model.rt:22:9
 returns-2 : tie.Need-returns-2 Inv-loop μ-loop
 returns-2 c = names-vars _ _ (sym (c .before .var-names-hold .ensures) ∙ not-true _ (c .if2 .taken))
 
--- src/model.rt:25:9
 attr-names-hold-requires : tie.Need-attr-names-hold-requires Inv-loop μ-loop
 attr-names-hold-requires c κs = search needs
 
--- src/model.rt:26:9
 returns-3 : tie.Need-returns-3 Inv-loop μ-loop
 returns-3 c = names-globals _ _ (sym (c .before .before .before .before .before .dim-names-hold .ensures) ∙ not-false _ (c .before .before .before .before .if1 .left)) (sym (c .before .before .before .var-names-hold .ensures) ∙ not-false _ (c .before .before .if2 .left)) (sym (c .before .attr-names-hold .ensures) ∙ not-true _ (c .if3 .taken))
 
--- src/model.rt:30:5
 loop-holds : tie.Need-loop-holds Inv-loop μ-loop
 loop-holds c = (omega arith, sym (c .before .before .before .before .before .before .dim-names-hold .ensures) ∙ not-false _ (c .before .before .before .before .before .if1 .left), sym (c .before .before .before .before .var-names-hold .ensures) ∙ not-false _ (c .before .before .before .if2 .left), sym (c .before .before .attr-names-hold .ensures) ∙ not-false _ (c .before .if3 .left), below-none _)
 
--- src/model.rt:31:17
 mul-v : tie.Need-mul-v Inv-loop μ-loop
 mul-v c = search needs
 
--- src/model.rt:31:17
 array-copy-out-v : tie.Need-array-copy-out-v Inv-loop μ-loop
 array-copy-out-v c = search needs
 
--- src/model.rt:34:13
 attr-names-hold-requires-2 : tie.Need-attr-names-hold-requires-2 Inv-loop μ-loop
 attr-names-hold-requires-2 c κs = c .before .before .before .before .before .before .before .before .before .before .before .before .pre .rows _ (c .before .if4 .taken) .span
 
--- src/model.rt:35:13
 returns-4 : tie.Need-returns-4 Inv-loop μ-loop
 returns-4 c = let l = c .before .before .before .before .before .loop in names-own _ _ (l .inv .1) (l .inv .2) (l .inv .3) _ (c .before .before .before .if4 .taken) (sym (c .before .attr-names-hold2 .ensures) ∙ not-true _ (c .if5 .taken))
 
--- src/model.rt:37:9
 add-i : tie.Need-add-i Inv-loop μ-loop
 add-i c = search needs
 
--- src/model.rt:30:5
 loop-less : tie.Need-loop-less Inv-loop μ-loop
 loop-less c = search needs
 
--- src/model.rt:30:5
 loop-again : tie.Need-loop-again Inv-loop μ-loop
 loop-again c = let l = c .before .before .before .before .before .loop in (omega arith, l .inv .1, l .inv .2, l .inv .3, below-more _ _ (l .inv .4) (sym (c .before .attr-names-hold2 .ensures) ∙ not-false _ (c .if5 .left)))
 
--- src/model.rt:14:1
 returns-5 : tie.Need-returns-5 Inv-loop μ-loop
 returns-5 c = let l = c .before .before .loop in names-all _ _ (l .inv .1) (l .inv .2) (l .inv .3) (λ k h. l .inv .4 k (omega arith))
 

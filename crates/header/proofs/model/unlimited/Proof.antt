@@ -7,8 +7,6 @@ use Rattle.header.proofs.Laws.Model.{unlimited-none, unlimited-is}
 use borrow.Author.Needs.{needs}
 use Rattle.header.proofs.model.unlimited.Statement.{statement}
 use Rattle.header.proofs.model.unlimited.Tie as tie
-use Rattle.header.proofs.model.unlimited.Reads as reads
-use Rattle.header.proofs.model.unlimited.Lts as lts
 
 abbrev Inv-loop : tie.InvT-loop
 Inv-loop t dims i₀ i = (i ≤ t .ndims) × ((k : ℕ) → k < i → dimAt t k .length ≡ 0 → ⊥)
@@ -16,35 +14,27 @@ Inv-loop t dims i₀ i = (i ≤ t .ndims) × ((k : ℕ) → k < i → dimAt t k 
 abbrev μ-loop : tie.MeasureT-loop
 μ-loop t dims i₀ i = t .ndims - i
 
--- src/model.rt:49:5
 loop-holds : tie.Need-loop-holds Inv-loop μ-loop
 loop-holds c = (omega arith, below-none _)
 
--- src/model.rt:50:17
 mul-d : tie.Need-mul-d Inv-loop μ-loop
 mul-d c = search needs
 
--- src/model.rt:50:17
 array-copy-out-d : tie.Need-array-copy-out-d Inv-loop μ-loop
 array-copy-out-d c = search needs
 
--- src/model.rt:52:13
 returns : tie.Need-returns Inv-loop μ-loop
 returns c = unlimited-is _ _ (c .before .before .before .if1 .taken) (c .before .before .before .before .before .loop .inv .1) (c .if2 .taken)
 
--- src/model.rt:54:9
 add-i : tie.Need-add-i Inv-loop μ-loop
 add-i c = search needs
 
--- src/model.rt:49:5
 loop-less : tie.Need-loop-less Inv-loop μ-loop
 loop-less c = search needs
 
--- src/model.rt:49:5
 loop-again : tie.Need-loop-again Inv-loop μ-loop
 loop-again c = (omega arith, below-more _ _ (c .before .before .before .before .before .loop .inv .1) (c .if2 .left))
 
--- src/model.rt:43:1
 returns-2 : tie.Need-returns-2 Inv-loop μ-loop
 returns-2 c = let l = c .before .before .loop in let e : l .i ≡ c .before .before .before .before .args .t .ndims = omega arith in e ∙ unlimited-none _ (λ k h. l .inv .1 k (omega arith))
 

@@ -12,9 +12,6 @@ use Rattle.header.proofs.Laws.Model.{new-if, distinct-all, distinct-emp
 use borrow.Author.Needs.{needs}
 use Rattle.header.proofs.names.attr_names_hold.Statement.{statement}
 use Rattle.header.proofs.names.attr_names_hold.Tie as tie
-use Rattle.header.proofs.names.attr_names_hold.Reads as reads
-use Rattle.header.proofs.names.attr_names_hold.Lts as lts
-use Rattle.header.proofs.names.same_name.Reads as same-name-reads
 
 -- the names of the attributes from `first` on, by their rows
 abbrev spans : List Attr → ℕ → ℕ → Span
@@ -32,75 +29,57 @@ Inv-loop s first n rows i₀ i = (i ≤ n) × ((k : ℕ) → k < i → isNew s (
 abbrev μ-loop : tie.MeasureT-loop
 μ-loop s first n rows i₀ i = n - i
 
--- src/names.rt:104:5
 loop-holds : tie.Need-loop-holds Inv-loop2 μ-loop2 Inv-loop μ-loop
 loop-holds c = (omega arith, below-none _)
 
--- src/names.rt:105:22
 add-a : tie.Need-add-a Inv-loop2 μ-loop2 Inv-loop μ-loop
 add-a c = search needs
 
--- src/names.rt:105:17
 mul-a : tie.Need-mul-a Inv-loop2 μ-loop2 Inv-loop μ-loop
 mul-a c = search needs
 
--- src/names.rt:105:17
 array-copy-out-a : tie.Need-array-copy-out-a Inv-loop2 μ-loop2 Inv-loop μ-loop
 array-copy-out-a c = search needs
 
--- src/names.rt:107:13
 returns : tie.Need-returns Inv-loop2 μ-loop2 Inv-loop μ-loop
 returns c = distinct-empty _ _ _ _ (c .before .before .before .loop-test .taken) (c .if1 .taken)
 
--- src/names.rt:110:9
 loop2-holds : tie.Need-loop2-holds Inv-loop2 μ-loop2 Inv-loop μ-loop
 loop2-holds c = (omega arith, below-none _)
 
--- src/names.rt:111:26
 add-b : tie.Need-add-b Inv-loop2 μ-loop2 Inv-loop μ-loop
 add-b c = search needs
 
--- src/names.rt:111:21
 mul-b : tie.Need-mul-b Inv-loop2 μ-loop2 Inv-loop μ-loop
 mul-b c = search needs
 
--- src/names.rt:111:21
 array-copy-out-b : tie.Need-array-copy-out-b Inv-loop2 μ-loop2 Inv-loop μ-loop
 array-copy-out-b c = search needs
 
--- src/names.rt:112:16
 same-name-requires : tie.Need-same-name-requires Inv-loop2 μ-loop2 Inv-loop μ-loop
 same-name-requires c κs = search needs
 
--- src/names.rt:113:17
 returns-2 : tie.Need-returns-2 Inv-loop2 μ-loop2 Inv-loop μ-loop
 returns-2 c = distinct-twice _ _ _ _ _ (c .before .before .before .before .before .before .before .before .loop-test .taken) (c .before .before .before .loop2-test .taken) (sym (c .before .same-name .ensures) ∙ c .if2 .taken)
 
--- src/names.rt:115:13
 add-j : tie.Need-add-j Inv-loop2 μ-loop2 Inv-loop μ-loop
 add-j c = search needs
 
--- src/names.rt:110:9
 loop2-less : tie.Need-loop2-less Inv-loop2 μ-loop2 Inv-loop μ-loop
 loop2-less c = search needs
 
--- src/names.rt:110:9
 loop2-again : tie.Need-loop2-again Inv-loop2 μ-loop2 Inv-loop μ-loop
 loop2-again c = (omega arith, below-more _ _ (c .before .before .before .before .loop2 .inv .1) (sym (c .before .same-name .ensures) ∙ c .if2 .left))
 
--- src/names.rt:117:9
 add-i : tie.Need-add-i Inv-loop2 μ-loop2 Inv-loop μ-loop
 add-i c = search needs
 
--- src/names.rt:104:5
 loop-less : tie.Need-loop-less Inv-loop2 μ-loop2 Inv-loop μ-loop
 loop-less c = search needs
 
--- src/names.rt:104:5
 loop-again : tie.Need-loop-again Inv-loop2 μ-loop2 Inv-loop μ-loop
 loop-again c = (omega arith, below-more _ _ (c .before .before .before .before .before .before .loop .inv .1) (new-if _ _ _ (c .before .before .if1 .left) (λ k l. c .before .loop2 .inv .1 k (omega arith))))
 
--- src/names.rt:98:1
 returns-3 : tie.Need-returns-3 Inv-loop2 μ-loop2 Inv-loop μ-loop
 returns-3 c = distinct-all _ _ _ (λ k l. c .before .loop .inv .1 k (omega arith))
 

@@ -7,9 +7,6 @@ use native.Mathlib.Omega.{arith}
 use Prim.Native.Nat.{ℕ, _+_, _-_, _≤_, _<_}
 use Rattle.header.proofs.names.same_name.Statement.{statement}
 use Rattle.header.proofs.names.same_name.Tie as tie
-use Rattle.header.proofs.names.same_name.Reads as reads
-use Rattle.header.proofs.names.same_name.Lts as lts
-use Rattle.header.proofs.names.byte_at.Reads as byte-at-reads
 
 abbrev Inv-loop : tie.InvT-loop
 Inv-loop s a achars b bchars i₀ i = (i ≤ achars) × (achars ≡ bchars) × ((k : ℕ) → k < i → getD s (a + k) 0 ≡ getD s (b + k) 0)
@@ -17,39 +14,30 @@ Inv-loop s a achars b bchars i₀ i = (i ≤ achars) × (achars ≡ bchars) × (
 abbrev μ-loop : tie.MeasureT-loop
 μ-loop s a achars b bchars i₀ i = achars - i
 
--- src/names.rt:31:9
 returns : tie.Need-returns Inv-loop μ-loop
 returns c = same-length _ _ _ (c .if1 .taken)
 
--- src/names.rt:34:5
 loop-holds : tie.Need-loop-holds Inv-loop μ-loop
 loop-holds c = (omega arith, c .if1 .left, below-none _)
 
--- src/names.rt:35:12
 byte-at-requires : tie.Need-byte-at-requires Inv-loop μ-loop
 byte-at-requires c κs = search needs
 
--- src/names.rt:35:32
 byte-at-requires-2 : tie.Need-byte-at-requires-2 Inv-loop μ-loop
 byte-at-requires-2 c κs = search needs
 
--- src/names.rt:36:13
 returns-2 : tie.Need-returns-2 Inv-loop μ-loop
 returns-2 c = same-not _ _ _ _ (c .before .before .before .loop-test .taken) (λ e. c .if2 .taken (c .before .before .byte-at .ensures ∙ e ∙ sym (c .before .byte-at2 .ensures)))
 
--- src/names.rt:38:9
 add-i : tie.Need-add-i Inv-loop μ-loop
 add-i c = search needs
 
--- src/names.rt:34:5
 loop-less : tie.Need-loop-less Inv-loop μ-loop
 loop-less c = search needs
 
--- src/names.rt:34:5
 loop-again : tie.Need-loop-again Inv-loop μ-loop
 loop-again c = (omega arith, c .before .before .before .before .loop .inv .1, below-more _ _ (c .before .before .before .before .loop .inv .2) (sym (c .before .before .byte-at .ensures) ∙ c .if2 .left ∙ c .before .byte-at2 .ensures))
 
--- src/names.rt:27:1
 returns-3 : tie.Need-returns-3 Inv-loop μ-loop
 returns-3 c = same-all _ _ _ (c .before .loop .inv .1) (λ k l. c .before .loop .inv .2 k (omega arith))
 

@@ -1,58 +1,41 @@
 use Rattle.header.proofs.Laws.Header.{read-longer, read-larger, read-stops, read-judged}
 use Rattle.grammar.specs.Dims.{ofTables}
 use Rattle.cdf.specs.declared.step.Next.{Next}
-use native.Mathlib.Omega.{arith}
-use mathlib.Core.Path.{_≡_, refl, sym, ap, _∙_}
+use mathlib.Core.Path.{sym, ap, _∙_}
 use borrow.Author.Needs.{needs}
 use Rattle.header.proofs.reader.read_header.Statement.{statement}
 use Rattle.header.proofs.reader.read_header.Tie as tie
-use Rattle.header.proofs.reader.read_header.Reads as reads
-use Rattle.header.proofs.reader.read_header.Lts as lts
-use Rattle.header.proofs.reader.judged.Reads as judged-reads
-use Rattle.grammar.proofs.whole.parse_header.Reads as parse-header-reads
-use Rattle.header.proofs.reader.refused.Reads as refused-reads
 
--- src/reader.rt:109:9
 refused-requires : tie.Need-refused-requires
 refused-requires c κs = search needs
 
--- src/reader.rt:109:9
 returns : tie.Need-returns
 returns c = read-longer _ _ _ (c .before .if1 .taken) (c .refused .ensures)
 
--- src/reader.rt:112:9
 refused-requires-2 : tie.Need-refused-requires-2
 refused-requires-2 c κs = search needs
 
--- src/reader.rt:112:9
 returns-2 : tie.Need-returns-2
 returns-2 c = read-larger _ _ _ (c .before .if2 .taken) (c .refused2 .ensures)
 
--- src/reader.rt:114:9
 parse-header-requires : tie.Need-parse-header-requires
 parse-header-requires c κs = search needs
 
--- src/reader.rt:118:20
 enum-known-next : tie.Need-enum-known-next
 enum-known-next c = search needs
 
--- src/reader.rt:118:29
 refused-requires-3 : tie.Need-refused-requires-3
 refused-requires-3 c κs = search needs
 
--- src/reader.rt:119:18
 enum-known-next-2 : tie.Need-enum-known-next-2
 enum-known-next-2 c = search needs
 
--- src/reader.rt:119:26
 judged-requires : tie.Need-judged-requires
 judged-requires c κs = c .before .before .before .before .parse-header .ensures .1
 
--- src/reader.rt:105:1
 returns-3 : tie.Need-returns-3
 returns-3 c = let p = c .before .before .before .before .before .parse-header in read-stops _ _ _ (c .before .before .before .before .before .before .before .if1 .left) (c .before .before .before .before .before .before .if2 .left) (c .refused3 .ensures) (ap (λ (x : Next). ofTables x (p .result .tables)) (sym (c .before .before .next .given .1)) ∙ p .ensures .0)
 
--- src/reader.rt:105:1
 returns-4 : tie.Need-returns-4
 returns-4 c = let p = c .before .before .before .before .before .parse-header in read-judged _ _ _ (c .before .before .before .before .before .before .before .if1 .left) (c .before .before .before .before .before .before .if2 .left) (ap (λ (x : Next). ofTables x (p .result .tables)) (sym (c .before .before .next2 .given .1)) ∙ p .ensures .0) (c .judged .ensures)
 

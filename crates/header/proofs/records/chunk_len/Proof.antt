@@ -1,15 +1,11 @@
 use borrow.Author.Needs.{needs}
 use Rattle.header.proofs.Laws.Records.{outer-within, firstLengths, lengths-none, lengths-more, lengths-all}
 use Rattle.header.specs.Records.{outer, capped}
-use mathlib.Core.Path.{_≡_, refl, sym, ap, _∙_}
+use mathlib.Core.Path.{_≡_, ap, _∙_}
 use native.Mathlib.Omega.{arith}
-use Prim.Native.Nat.{ℕ, _-_, _≤_, _<_}
+use Prim.Native.Nat.{ℕ, _-_, _≤_}
 use Rattle.header.proofs.records.chunk_len.Statement.{statement}
 use Rattle.header.proofs.records.chunk_len.Tie as tie
-use Rattle.header.proofs.records.chunk_len.Reads as reads
-use Rattle.header.proofs.records.chunk_len.Lts as lts
-use Rattle.header.proofs.records.outer.Reads as outer-reads
-use Rattle.header.proofs.records.times.Reads as times-reads
 
 abbrev Inv-loop : tie.InvT-loop
 Inv-loop dims v k₀ product₀ k product = (outer dims v ≤ k) × (k ≤ v .rank) × (product ≡ capped (firstLengths dims v (k - outer dims v)))
@@ -17,11 +13,9 @@ Inv-loop dims v k₀ product₀ k product = (outer dims v ≤ k) × (k ≤ v .ra
 abbrev μ-loop : tie.MeasureT-loop
 μ-loop dims v k₀ product₀ k product = v .rank - k
 
--- src/records.rt:64:9
 outer-requires : tie.Need-outer-requires Inv-loop μ-loop
 outer-requires c κs = search needs
 
--- src/records.rt:66:5
 loop-holds : tie.Need-loop-holds Inv-loop μ-loop
 loop-holds c =
     let a = c .before .args in
@@ -30,43 +24,33 @@ loop-holds c =
     let z : 0 ≡ c .outer .result - outer (a .t1) (a .t2) = omega arith in
     (omega arith, omega arith, lengths-none (a .t1) (a .t2) ∙ ap (λ (n : ℕ). capped (firstLengths (a .t1) (a .t2) n)) z)
 
--- src/records.rt:67:18
 mul-id : tie.Need-mul-id Inv-loop μ-loop
 mul-id c = search needs
 
--- src/records.rt:67:18
 element-copy-out-id : tie.Need-element-copy-out-id Inv-loop μ-loop
 element-copy-out-id c = search needs
 
--- src/records.rt:67:18
 cast-id : tie.Need-cast-id Inv-loop μ-loop
 cast-id c = search needs
 
--- src/records.rt:68:17
 mul-d : tie.Need-mul-d Inv-loop μ-loop
 mul-d c = omega (arith, c .before .before .before .before .pre .1 (c .before .before .loop .k) (c .before .loop-test .taken))
 
--- src/records.rt:68:17
 array-copy-out-d : tie.Need-array-copy-out-d Inv-loop μ-loop
 array-copy-out-d c = c .before .before .before .before .pre .1 (c .before .before .loop .k) (c .before .loop-test .taken)
 
--- src/records.rt:69:9
 times-requires : tie.Need-times-requires Inv-loop μ-loop
 times-requires c κs = search needs
 
--- src/records.rt:70:9
 add-k : tie.Need-add-k Inv-loop μ-loop
 add-k c = search needs
 
--- src/records.rt:66:5
 loop-less : tie.Need-loop-less Inv-loop μ-loop
 loop-less c = search needs
 
--- src/records.rt:66:5
 loop-again : tie.Need-loop-again Inv-loop μ-loop
 loop-again c = let l = c .before .before .before .before .loop in (omega arith, omega arith, lengths-more _ _ (l .k) (l .inv .0) (λ x e. c .times .ensures x (l .inv .2 ∙ e)))
 
--- src/records.rt:60:1
 returns : tie.Need-returns Inv-loop μ-loop
 returns c = let l = c .before .loop in l .inv .2 ∙ lengths-all _ _ (omega arith)
 

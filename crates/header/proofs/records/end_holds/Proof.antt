@@ -7,47 +7,34 @@ use native.Mathlib.Omega.{arith}
 use borrow.Author.Needs.{needs}
 use Rattle.header.proofs.records.end_holds.Statement.{statement}
 use Rattle.header.proofs.records.end_holds.Tie as tie
-use Rattle.header.proofs.records.end_holds.Reads as reads
-use Rattle.header.proofs.records.end_holds.Lts as lts
-use Rattle.header.proofs.records.passes.Reads as passes-reads
 
--- src/records.rt:141:16
 add-result : tie.Need-add-result
 add-result c = search needs
 
--- src/records.rt:141:9
 returns : tie.Need-returns
 returns c = let a = c .before .args in end-fixed (a .begin) (a .padded) (a .step) (a .n) (not-true (a .records) (c .if1 .taken))
 
--- src/records.rt:144:9
 returns-2 : tie.Need-returns-2
 returns-2 c = end-none _ _ _ _ (not-false (c .before .before .args .records) (c .before .if1 .left)) (c .if2 .taken) (c .before .before .pre .0)
 
--- src/records.rt:146:17
 sub-steps : tie.Need-sub-steps
 sub-steps c = search needs
 
--- src/records.rt:147:8
 passes-requires : tie.Need-passes-requires
 passes-requires c κs = search needs
 
--- src/records.rt:148:9
 returns-3 : tie.Need-returns-3
 returns-3 c = end-over _ _ _ _ (not-false (c .before .before .before .before .args .records) (c .before .before .before .if1 .left)) (c .before .before .if2 .left) (ltb-true _ _ (sym (c .before .passes .ensures) ∙ c .if3 .taken))
 
--- src/records.rt:150:13
 mul-result : tie.Need-mul-result
 mul-result c = let a = c .before .before .before .before .args in omega (arith, ltb-false maxPosition ((a .n - 1) * a .step) (sym (c .before .passes .ensures) ∙ c .if3 .left))
 
--- src/records.rt:150:5
 add-result-2 : tie.Need-add-result-2
 add-result-2 c = let a = c .before .before .before .before .args in omega (arith, ltb-false maxPosition ((a .n - 1) * a .step) (sym (c .before .passes .ensures) ∙ c .if3 .left))
 
--- src/records.rt:150:5
 add-result-3 : tie.Need-add-result-3
 add-result-3 c = let a = c .before .before .before .before .args in omega (arith, ltb-false maxPosition ((a .n - 1) * a .step) (sym (c .before .passes .ensures) ∙ c .if3 .left))
 
--- src/records.rt:136:1
 returns-4 : tie.Need-returns-4
 returns-4 c = end-last _ _ _ _ (not-false (c .before .before .before .before .args .records) (c .before .before .before .if1 .left)) (c .before .before .if2 .left)
 

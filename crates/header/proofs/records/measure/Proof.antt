@@ -1,19 +1,14 @@
 use Prim.Native.Nat.{ℕ, _-_, _≤_, _<_, _+_}
 use native.Mathlib.Omega.{arith}
-use mathlib.Core.Path.{_≡_, refl, sym, ap, subst, _∙_}
+use mathlib.Core.Path.{_≡_, ap, subst, _∙_}
 use mathlib.Core.Bool.{true}
 use borrow.Author.Count.{below-none, below-more}
 use Rattle.header.specs.Records.{maxChunk, placed, total, recordSize}
-use Rattle.header.proofs.Laws.Records.{part, ids-below, capped-is, capped-above, bytes-over, padded-are, padded-in, placed-if, sizes-begin, sizes-chunk, sizes-sum, sizes-all, size-is, total-more, part-of, sum-more, never, total-none}
+use Rattle.header.proofs.Laws.Records.{part, ids-below, capped-is, capped-above, bytes-over, padded-are, padded-in, placed-if, sizes-begin, sizes-chunk, sizes-sum, sizes-all, size-is, part-of, sum-more, never, total-none}
 use borrow.Author.Needs.{needs}
 use Rattle.grammar.specs.Tables.{varAt}
 use Rattle.header.proofs.records.measure.Statement.{statement}
 use Rattle.header.proofs.records.measure.Tie as tie
-use Rattle.header.proofs.records.measure.Reads as reads
-use Rattle.header.proofs.records.measure.Lts as lts
-use Rattle.header.proofs.records.chunk_bytes.Reads as chunk-bytes-reads
-use Rattle.header.proofs.records.is_record.Reads as is-record-reads
-use Rattle.header.proofs.records.record_part.Reads as record-part-reads
 
 abbrev Inv-loop : tie.InvT-loop
 Inv-loop t broken dims vars step₀ i₀ step i = (i ≤ t .nvars) × ((k : ℕ) → k < i → placed t k ≡ true) × (step ≡ total (part t) i) × (step ≤ maxChunk)
@@ -21,43 +16,33 @@ Inv-loop t broken dims vars step₀ i₀ step i = (i ≤ t .nvars) × ((k : ℕ)
 abbrev μ-loop : tie.MeasureT-loop
 μ-loop t broken dims vars step₀ i₀ step i = t .nvars - i
 
--- src/records.rt:112:5
 loop-holds : tie.Need-loop-holds Inv-loop μ-loop
 loop-holds c = (omega arith, below-none _, total-none _, omega arith)
 
--- src/records.rt:113:17
 mul-v : tie.Need-mul-v Inv-loop μ-loop
 mul-v c = search needs
 
--- src/records.rt:113:17
 array-copy-out-v : tie.Need-array-copy-out-v Inv-loop μ-loop
 array-copy-out-v c = search needs
 
--- src/records.rt:115:13
 returns : tie.Need-returns Inv-loop μ-loop
 returns c = (sizes-begin _ _ (c .before .before .before .if1 .taken) (c .if2 .taken), never _)
 
--- src/records.rt:117:13
 chunk-bytes-requires : tie.Need-chunk-bytes-requires Inv-loop μ-loop
 chunk-bytes-requires c κs = let p = c .before .before .before .before .before .before .before .before .pre in let r = p .0 .rows _ (c .before .before .before .if1 .taken) in (r .rank, ids-below _ (p .1) _ (c .before .before .before .if1 .taken) (p .0 .dims), r .low, r .high)
 
--- src/records.rt:119:13
 returns-2 : tie.Need-returns-2 Inv-loop μ-loop
 returns-2 c = (sizes-chunk _ _ (c .before .before .before .before .before .if1 .taken) (bytes-over _ _ (capped-above _ (c .before .chunk-bytes .ensures) (c .if3 .taken))), never _)
 
--- src/records.rt:121:29
 is-record-requires : tie.Need-is-record-requires Inv-loop μ-loop
 is-record-requires c κs = let p = c .before .before .before .before .before .before .before .before .before .before .pre in let r = p .0 .rows _ (c .before .before .before .before .before .if1 .taken) in (r .rank, ids-below _ (p .1) _ (c .before .before .before .before .before .if1 .taken) (p .0 .dims))
 
--- src/records.rt:121:17
 record-part-requires : tie.Need-record-part-requires Inv-loop μ-loop
 record-part-requires c κs = search needs
 
--- src/records.rt:121:9
 add-step : tie.Need-add-step Inv-loop μ-loop
 add-step c = omega (arith, c .record-part .ensures .1)
 
--- src/records.rt:123:13
 returns-3 : tie.Need-returns-3 Inv-loop μ-loop
 returns-3 c =
     let t = c .before .before .before .before .before .before .before .before .before .before .before .before .before .args .t in
@@ -66,15 +51,12 @@ returns-3 c =
     let s = sum-more t (l .i) (l .inv .2) p in
     (sizes-sum t (l .i + 1) (omega arith) (subst (λ (n : ℕ). maxChunk < n) s (c .if4 .taken)), never _)
 
--- src/records.rt:125:9
 add-i : tie.Need-add-i Inv-loop μ-loop
 add-i c = search needs
 
--- src/records.rt:112:5
 loop-less : tie.Need-loop-less Inv-loop μ-loop
 loop-less c = search needs
 
--- src/records.rt:112:5
 loop-again : tie.Need-loop-again Inv-loop μ-loop
 loop-again c =
     let t = c .before .before .before .before .before .before .before .before .before .before .before .before .before .args .t in
@@ -89,7 +71,6 @@ loop-again c =
       c .if4 .left,
     )
 
--- src/records.rt:100:1
 returns-4 : tie.Need-returns-4 Inv-loop μ-loop
 returns-4 c =
     let t = c .before .before .before .before .before .args .t in

@@ -3,18 +3,13 @@ use native.Mathlib.Omega.{arith}
 use borrow.Author.Needs.{needs}
 use Rattle.header.proofs.records.passes.Statement.{statement}
 use Rattle.header.proofs.records.passes.Tie as tie
-use Rattle.header.proofs.records.passes.Reads as reads
-use Rattle.header.proofs.records.passes.Lts as lts
 
--- src/records.rt:130:9
 returns : tie.Need-returns
 returns c = passes-none _ _ (c .if1 .taken)
 
--- src/records.rt:132:5
 div-result : tie.Need-div-result
 div-result c = search needs
 
--- src/records.rt:126:1
 returns-2 : tie.Need-returns-2
 returns-2 c = passes-by (c .before .args .steps) (c .before .args .step) (omega arith)
 

@@ -1,7 +1,7 @@
 use borrow.Author.Needs.{needs}
 use native.Mathlib.Omega.{arith}
 use borrow.Author.Count.{below-none, below-more}
-use mathlib.Core.Path.{_≡_, sym, refl}
+use mathlib.Core.Path.{_≡_, refl}
 use mathlib.Core.List.{_++_}
 use lib.ListN.{length, take, drop, getD}
 use lib.Seq.{length-take-le}
@@ -10,9 +10,6 @@ use Rattle.hexlines.specs.Cut.{kept, newline}
 use Rattle.hexlines.proofs.Laws.Cut.{cut-none, cut-more, cut-closed, cut-open}
 use Rattle.hexlines.proofs.cut.cut_line.Statement.{statement}
 use Rattle.hexlines.proofs.cut.cut_line.Tie as tie
-use Rattle.hexlines.proofs.cut.cut_line.Reads as reads
-use Rattle.hexlines.proofs.cut.cut_line.Lts as lts
-use Rattle.hexlines.proofs.cut.keep.Reads as keep-reads
 
 abbrev Inv-loop : tie.InvT-loop
 Inv-loop block at line₀ held i₀ h₀ line i h =
@@ -23,56 +20,44 @@ Inv-loop block at line₀ held i₀ h₀ line i h =
 abbrev μ-loop : tie.MeasureT-loop
 μ-loop block at line₀ held i₀ h₀ line i h = length block - at - i
 
--- src/cut.rt:39:5
 loop-holds : tie.Need-loop-holds Inv-loop μ-loop
 loop-holds c =
     let f = length-take-le (c .before .before .args .held) (c .before .before .args .line .now) (omega arith) in
     (omega arith, refl, search needs, below-none _, cut-none (c .before .before .args .block .now) (take (c .before .before .args .held) (c .before .before .args .line .now)) (c .before .before .args .at) (omega (arith, f)))
 
--- src/cut.rt:39:15
 sub-loop : tie.Need-sub-loop Inv-loop μ-loop
 sub-loop c = search needs
 
--- src/cut.rt:40:23
 add-c : tie.Need-add-c Inv-loop μ-loop
 add-c c = search needs
 
--- src/cut.rt:40:17
 shared-slice-read-c : tie.Need-shared-slice-read-c Inv-loop μ-loop
 shared-slice-read-c c = search needs
 
--- src/cut.rt:43:23
 add-t13 : tie.Need-add-t13 Inv-loop μ-loop
 add-t13 c = search needs
 
--- src/cut.rt:43:23
 add-t14 : tie.Need-add-t14 Inv-loop μ-loop
 add-t14 c = search needs
 
--- src/cut.rt:42:13
 same-length : tie.Need-same-length Inv-loop μ-loop
 same-length c = search needs
 
--- src/cut.rt:42:13
 returns : tie.Need-returns Inv-loop μ-loop
 returns c = (
   cut-closed (c .before .before .before .before .before .before .args .block .now) (take (c .before .before .before .before .before .before .args .held) (c .before .before .before .before .before .before .args .line .now)) (c .before .before .before .before .before .before .args .at) _ (c .before .before .before .loop .inv .3) _ _ (omega arith) (c .if1 .taken) (c .before .before .before .loop .inv .4),
   (λ _. omega arith, omega arith, omega arith),
 )
 
--- src/cut.rt:48:9
 keep-requires : tie.Need-keep-requires Inv-loop μ-loop
 keep-requires c κs = search needs
 
--- src/cut.rt:49:9
 add-i : tie.Need-add-i Inv-loop μ-loop
 add-i c = search needs
 
--- src/cut.rt:39:5
 loop-less : tie.Need-loop-less Inv-loop μ-loop
 loop-less c = search needs
 
--- src/cut.rt:39:5
 loop-again : tie.Need-loop-again Inv-loop μ-loop
 loop-again c = (
   omega arith,
@@ -82,11 +67,9 @@ loop-again c = (
   cut-more (c .before .before .before .before .before .before .before .before .before .before .args .block .now) (take (c .before .before .before .before .before .before .before .before .before .before .args .held) (c .before .before .before .before .before .before .before .before .before .before .args .line .now)) (c .before .before .before .before .before .before .before .before .before .before .args .at) _ _ _ _ (omega arith) refl (c .before .before .before .before .before .before .before .loop .inv .4) (c .before .before .keep .ensures .0),
 )
 
--- src/cut.rt:32:1
 same-length-2 : tie.Need-same-length-2 Inv-loop μ-loop
 same-length-2 c = search needs
 
--- src/cut.rt:32:1
 returns-2 : tie.Need-returns-2 Inv-loop μ-loop
 returns-2 c = (
   cut-open (c .before .before .before .before .args .block .now) (take (c .before .before .before .before .args .held) (c .before .before .before .before .args .line .now)) (c .before .before .before .before .args .at) _ (c .before .loop .inv .3) _ _ (omega arith) (omega arith) (omega arith) (c .before .loop .inv .4),

@@ -3,26 +3,19 @@ use Rattle.hexlines.proofs.Laws.Cut.{keep-room, keep-full}
 use borrow.Author.Needs.{needs}
 use Rattle.hexlines.proofs.cut.keep.Statement.{statement}
 use Rattle.hexlines.proofs.cut.keep.Tie as tie
-use Rattle.hexlines.proofs.cut.keep.Reads as reads
-use Rattle.hexlines.proofs.cut.keep.Lts as lts
 
--- src/cut.rt:25:9
 slice-write-line : tie.Need-slice-write-line
 slice-write-line c = search needs
 
--- src/cut.rt:26:16
 add-result : tie.Need-add-result
 add-result c = search needs
 
--- src/cut.rt:26:9
 same-length : tie.Need-same-length
 same-length c = search needs
 
--- src/cut.rt:26:9
 returns : tie.Need-returns
 returns c = (keep-room (c .before .args .line .now) (c .before .args .held) (c .before .args .c) (omega arith) (omega arith), omega arith)
 
--- src/cut.rt:19:1
 returns-2 : tie.Need-returns-2
 returns-2 c = (keep-full (c .before .args .line .now) (c .before .args .held) (c .before .args .c) (omega arith) (omega arith) (omega arith), omega arith)
 

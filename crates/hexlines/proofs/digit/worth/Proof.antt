@@ -3,42 +3,31 @@ use native.Mathlib.Omega.{arith}
 use Rattle.hexlines.proofs.Laws.Digit.{under, over, decimal-digit, upper-digit, lower-digit, no-digit}
 use Rattle.hexlines.proofs.digit.worth.Statement.{statement}
 use Rattle.hexlines.proofs.digit.worth.Tie as tie
-use Rattle.hexlines.proofs.digit.worth.Reads as reads
-use Rattle.hexlines.proofs.digit.worth.Lts as lts
 
--- src/digit.rt:13:9
 returns : tie.Need-returns
 returns c = no-digit _ (under _ _ _ (omega arith)) (under _ _ _ (omega arith)) (under _ _ _ (omega arith))
 
--- src/digit.rt:16:9
 returns-2 : tie.Need-returns-2
 returns-2 c = decimal-digit _ (omega arith) (omega arith)
 
--- src/digit.rt:19:9
 returns-3 : tie.Need-returns-3
 returns-3 c = no-digit _ (over _ _ _ (omega arith)) (under _ _ _ (omega arith)) (under _ _ _ (omega arith))
 
--- src/digit.rt:22:16
 add-result : tie.Need-add-result
 add-result c = search needs
 
--- src/digit.rt:22:9
 returns-4 : tie.Need-returns-4
 returns-4 c = upper-digit _ (omega arith) (omega arith)
 
--- src/digit.rt:25:9
 returns-5 : tie.Need-returns-5
 returns-5 c = no-digit _ (over _ _ _ (omega arith)) (over _ _ _ (omega arith)) (under _ _ _ (omega arith))
 
--- src/digit.rt:28:16
 add-result-2 : tie.Need-add-result-2
 add-result-2 c = search needs
 
--- src/digit.rt:28:9
 returns-6 : tie.Need-returns-6
 returns-6 c = lower-digit _ (omega arith) (omega arith)
 
--- src/digit.rt:9:1
 returns-7 : tie.Need-returns-7
 returns-7 c = no-digit _ (over _ _ _ (omega arith)) (over _ _ _ (omega arith)) (over _ _ _ (omega arith))
 

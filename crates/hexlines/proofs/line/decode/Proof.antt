@@ -1,16 +1,13 @@
 use borrow.Author.Needs.{needs}
 use native.Mathlib.Omega.{arith}
-use borrow.Author.Count.{below-none, below-more}
-use mathlib.Core.Path.{_≡_, sym, refl, subst}
+use borrow.Author.Count.{below-none}
+use mathlib.Core.Path.{_≡_, subst}
 use lib.ListN.{length, take, getD}
 use Prim.Native.Nat.{ℕ, _+_, _-_, _*_, _≤_, _<_}
 use Rattle.hexlines.specs.Digit.{worth, spelled}
 use Rattle.hexlines.proofs.Laws.Digit.{digits-all, digits-not, spelled-none, spelled-more, two-more, exactly}
 use Rattle.hexlines.proofs.line.decode.Statement.{statement}
 use Rattle.hexlines.proofs.line.decode.Tie as tie
-use Rattle.hexlines.proofs.line.decode.Reads as reads
-use Rattle.hexlines.proofs.line.decode.Lts as lts
-use Rattle.hexlines.proofs.digit.worth.Reads as worth-reads
 
 abbrev Inv-loop : tie.InvT-loop
 Inv-loop text n file₀ i₀ file i = (i ≤ n) × (length file ≡ length file₀) × ((k : ℕ) → k < i * 2 → worth (getD text k 0) < 16) × (take i file ≡ spelled i text)
@@ -18,75 +15,57 @@ Inv-loop text n file₀ i₀ file i = (i ≤ n) × (length file ≡ length file�
 abbrev μ-loop : tie.MeasureT-loop
 μ-loop text n file₀ i₀ file i = n - i
 
--- src/line.rt:27:5
 loop-holds : tie.Need-loop-holds Inv-loop μ-loop
 loop-holds c = (search needs, search needs, below-none _, spelled-none (c .before .before .args .text .now) (c .before .before .args .file .now))
 
--- src/line.rt:28:31
 mul-worth : tie.Need-mul-worth Inv-loop μ-loop
 mul-worth c = search needs
 
--- src/line.rt:28:26
 shared-slice-read-worth : tie.Need-shared-slice-read-worth Inv-loop μ-loop
 shared-slice-read-worth c = search needs
 
--- src/line.rt:28:13
 worth-requires : tie.Need-worth-requires Inv-loop μ-loop
 worth-requires c κs = search needs
 
--- src/line.rt:30:13
 same-length : tie.Need-same-length Inv-loop μ-loop
 same-length c = search needs
 
--- src/line.rt:30:13
 returns : tie.Need-returns Inv-loop μ-loop
 returns c = (digits-not _ _ (2 * c .before .before .before .before .loop .i) (omega arith) (omega (arith, c .before .worth .ensures)), λ e. cc)
 
--- src/line.rt:32:30
 mul-worth-2 : tie.Need-mul-worth-2 Inv-loop μ-loop
 mul-worth-2 c = search needs
 
--- src/line.rt:32:30
 add-worth : tie.Need-add-worth Inv-loop μ-loop
 add-worth c = search needs
 
--- src/line.rt:32:25
 shared-slice-read-worth-2 : tie.Need-shared-slice-read-worth-2 Inv-loop μ-loop
 shared-slice-read-worth-2 c = search needs
 
--- src/line.rt:32:13
 worth-requires-2 : tie.Need-worth-requires-2 Inv-loop μ-loop
 worth-requires-2 c κs = search needs
 
--- src/line.rt:34:13
 same-length-2 : tie.Need-same-length-2 Inv-loop μ-loop
 same-length-2 c = search needs
 
--- src/line.rt:34:13
 returns-2 : tie.Need-returns-2 Inv-loop μ-loop
 returns-2 c = (digits-not _ _ (2 * c .before .before .before .before .before .before .before .loop .i + 1) (omega arith) (omega (arith, c .before .worth2 .ensures)), λ e. cc)
 
--- src/line.rt:36:19
 mul-file : tie.Need-mul-file Inv-loop μ-loop
 mul-file c = search needs
 
--- src/line.rt:36:19
 add-file : tie.Need-add-file Inv-loop μ-loop
 add-file c = search needs
 
--- src/line.rt:36:9
 slice-write-file : tie.Need-slice-write-file Inv-loop μ-loop
 slice-write-file c = search needs
 
--- src/line.rt:37:9
 add-i : tie.Need-add-i Inv-loop μ-loop
 add-i c = search needs
 
--- src/line.rt:27:5
 loop-less : tie.Need-loop-less Inv-loop μ-loop
 loop-less c = search needs
 
--- src/line.rt:27:5
 loop-again : tie.Need-loop-again Inv-loop μ-loop
 loop-again c = (
   omega arith,
@@ -95,11 +74,9 @@ loop-again c = (
   spelled-more _ _ _ _ _ (omega arith) (c .before .before .before .before .before .before .before .loop .inv .3) (c .before .before .before .before .worth .ensures) (c .before .worth2 .ensures),
 )
 
--- src/line.rt:21:1
 same-length-3 : tie.Need-same-length-3 Inv-loop μ-loop
 same-length-3 c = search needs
 
--- src/line.rt:21:1
 returns-3 : tie.Need-returns-3 Inv-loop μ-loop
 returns-3 c = (digits-all _ _ (λ k l. c .before .loop .inv .2 k (omega arith)), λ _. exactly _ _ _ _ (omega arith) (c .before .loop .inv .3))
 

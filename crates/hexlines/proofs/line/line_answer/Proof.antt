@@ -4,38 +4,28 @@ use Rattle.hexlines.proofs.Laws.Line.{answer-long, answer-odd, answer-n
 use borrow.Author.Needs.{needs}
 use Rattle.hexlines.proofs.line.line_answer.Statement.{statement}
 use Rattle.hexlines.proofs.line.line_answer.Tie as tie
-use Rattle.hexlines.proofs.line.line_answer.Reads as reads
-use Rattle.hexlines.proofs.line.line_answer.Lts as lts
-use Rattle.hexlines.proofs.line.decode.Reads as decode-reads
 
--- src/line.rt:50:9
 returns : tie.Need-returns
 returns c = (answer-long _ (omega arith), search needs)
 
--- src/line.rt:53:9
 returns-2 : tie.Need-returns-2
 returns-2 c = (answer-odd _ (omega arith) (λ e. omega arith), search needs)
 
--- src/line.rt:56:8
 decode-requires : tie.Need-decode-requires
 decode-requires c κs = search needs
 
--- src/line.rt:57:9
 same-length : tie.Need-same-length
 same-length c = search needs
 
--- src/line.rt:57:9
 returns-3 : tie.Need-returns-3
 returns-3 c = (
   answer-file _ _ (omega arith) (omega arith) (sym (c .if3 .taken) ∙ c .before .before .before .decode .ensures .0) (c .before .before .before .decode .ensures .1 (c .if3 .taken)),
   omega arith,
 )
 
--- src/line.rt:43:1
 same-length-2 : tie.Need-same-length-2
 same-length-2 c = search needs
 
--- src/line.rt:43:1
 returns-4 : tie.Need-returns-4
 returns-4 c = (answer-no-digits _ (omega arith) (omega arith) (sym (c .if3 .left) ∙ c .before .before .before .decode .ensures .0), search needs)
 

@@ -2,22 +2,16 @@ use Rattle.hexlines.proofs.Laws.Text.{grown-byte}
 use borrow.Author.Needs.{needs}
 use Rattle.hexlines.proofs.text.put_byte.Statement.{statement}
 use Rattle.hexlines.proofs.text.put_byte.Tie as tie
-use Rattle.hexlines.proofs.text.put_byte.Reads as reads
-use Rattle.hexlines.proofs.text.put_byte.Lts as lts
 
--- src/text.rt:24:5
 slice-write-out : tie.Need-slice-write-out
 slice-write-out c = search needs
 
--- src/text.rt:25:5
 add-result : tie.Need-add-result
 add-result c = search needs
 
--- src/text.rt:20:1
 same-length : tie.Need-same-length
 same-length c = search needs
 
--- src/text.rt:20:1
 returns : tie.Need-returns
 returns c = grown-byte _ _ _ (search needs)
 

@@ -3,34 +3,24 @@ use Rattle.hexlines.proofs.Laws.Text.{decimal-is, few-digits, grown-is}
 use borrow.Author.Needs.{needs}
 use Rattle.hexlines.proofs.text.put_decimal.Statement.{statement}
 use Rattle.hexlines.proofs.text.put_decimal.Tie as tie
-use Rattle.hexlines.proofs.text.put_decimal.Reads as reads
-use Rattle.hexlines.proofs.text.put_decimal.Lts as lts
-use Rattle.hexlines.proofs.text.put_text.Reads as put-text-reads
-use Rattle.io.proofs.decimal.Reads as decimal-reads
 
--- src/text.rt:34:9
 decimal-requires : tie.Need-decimal-requires
 decimal-requires c κs = search needs
 
--- src/text.rt:35:23
 array-share-prefix-digits : tie.Need-array-share-prefix-digits
 array-share-prefix-digits c = search needs
 
--- src/text.rt:35:23
 slice-aggregate-put-text : tie.Need-slice-aggregate-put-text
 slice-aggregate-put-text c = search needs
 
--- src/text.rt:35:5
 put-text-requires : tie.Need-put-text-requires
 put-text-requires c κs =
     let few = few-digits (c .before .before .before .before .before .args .n) _ (c .before .before .decimal .ensures .1 .0) (omega arith) in
     omega (arith, few, c .before .before .decimal .ensures .0 .1)
 
--- src/text.rt:29:1
 same-length : tie.Need-same-length
 same-length c = search needs
 
--- src/text.rt:29:1
 returns : tie.Need-returns
 returns c =
     let few = few-digits (c .before .before .before .before .before .before .before .before .args .n) _ (c .before .before .before .before .before .decimal .ensures .1 .0) (omega arith) in (

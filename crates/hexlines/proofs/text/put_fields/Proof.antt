@@ -3,31 +3,22 @@ use Rattle.hexlines.proofs.Laws.Text.{grown-fields}
 use borrow.Author.Needs.{needs}
 use Rattle.hexlines.proofs.text.put_fields.Statement.{statement}
 use Rattle.hexlines.proofs.text.put_fields.Tie as tie
-use Rattle.hexlines.proofs.text.put_fields.Reads as reads
-use Rattle.hexlines.proofs.text.put_fields.Lts as lts
-use Rattle.hexlines.proofs.text.put_field.Reads as put-field-reads
 
--- src/text.rt:59:9
 put-field-requires : tie.Need-put-field-requires
 put-field-requires c κs = search needs
 
--- src/text.rt:60:9
 put-field-requires-2 : tie.Need-put-field-requires-2
 put-field-requires-2 c κs = search needs
 
--- src/text.rt:61:9
 put-field-requires-3 : tie.Need-put-field-requires-3
 put-field-requires-3 c κs = search needs
 
--- src/text.rt:62:5
 put-field-requires-4 : tie.Need-put-field-requires-4
 put-field-requires-4 c κs = search needs
 
--- src/text.rt:48:1
 same-length : tie.Need-same-length
 same-length c = search needs
 
--- src/text.rt:48:1
 returns : tie.Need-returns
 returns c = (
   grown-fields _ _ _ _ (c .before .before .before .before .before .before .before .before .before .before .before .before .before .before .put-field .ensures .0) (c .before .before .before .before .before .before .before .before .before .before .put-field2 .ensures .0) (c .before .before .before .before .before .before .put-field3 .ensures .0) (c .before .before .put-field4 .ensures .0),

@@ -7,8 +7,6 @@ use native.Mathlib.Omega.{arith}
 use Prim.Native.Nat.{ℕ, _+_, _-_, _≤_, _<_}
 use Rattle.reads.proofs.lookup.is_named.Statement.{statement}
 use Rattle.reads.proofs.lookup.is_named.Tie as tie
-use Rattle.reads.proofs.lookup.is_named.Reads as reads
-use Rattle.reads.proofs.lookup.is_named.Lts as lts
 
 abbrev Inv-loop : tie.InvT-loop
 Inv-loop s at chars wanted k₀ k = (k ≤ chars) × (chars ≡ length wanted) × ((j : ℕ) → j < k → getD s (at + j) 0 ≡ getD wanted j 0)
@@ -16,43 +14,33 @@ Inv-loop s at chars wanted k₀ k = (k ≤ chars) × (chars ≡ length wanted) �
 abbrev μ-loop : tie.MeasureT-loop
 μ-loop s at chars wanted k₀ k = chars - k
 
--- src/lookup.rt:42:9
 returns : tie.Need-returns Inv-loop μ-loop
 returns c = same-length _ _ _ _ (c .if1 .taken)
 
--- src/lookup.rt:45:5
 loop-holds : tie.Need-loop-holds Inv-loop μ-loop
 loop-holds c = (omega arith, c .if1 .left, below-none _)
 
--- src/lookup.rt:46:14
 add-if2 : tie.Need-add-if2 Inv-loop μ-loop
 add-if2 c = search needs
 
--- src/lookup.rt:46:12
 shared-slice-read-if2 : tie.Need-shared-slice-read-if2 Inv-loop μ-loop
 shared-slice-read-if2 c = search needs
 
--- src/lookup.rt:46:25
 shared-slice-read-if2-2 : tie.Need-shared-slice-read-if2-2 Inv-loop μ-loop
 shared-slice-read-if2-2 c = search needs
 
--- src/lookup.rt:47:13
 returns-2 : tie.Need-returns-2 Inv-loop μ-loop
 returns-2 c = same-not _ _ _ _ _ (c .before .before .before .loop-test .taken) (c .if2 .taken)
 
--- src/lookup.rt:49:9
 add-k : tie.Need-add-k Inv-loop μ-loop
 add-k c = search needs
 
--- src/lookup.rt:45:5
 loop-less : tie.Need-loop-less Inv-loop μ-loop
 loop-less c = search needs
 
--- src/lookup.rt:45:5
 loop-again : tie.Need-loop-again Inv-loop μ-loop
 loop-again c = (omega arith, c .before .before .before .before .loop .inv .1, below-more _ _ (c .before .before .before .before .loop .inv .2) (c .if2 .left))
 
--- src/lookup.rt:37:1
 returns-3 : tie.Need-returns-3 Inv-loop μ-loop
 returns-3 c = same-all _ _ _ _ (c .before .loop .inv .1) (λ k l. c .before .loop .inv .2 k (omega arith))
 

@@ -10,8 +10,6 @@ use native.Mathlib.Omega.{arith}
 use Prim.Native.Nat.{ℕ, _+_, _-_, _≤_, _<_}
 use Rattle.reads.proofs.lookup.names_inside.Statement.{statement}
 use Rattle.reads.proofs.lookup.names_inside.Tie as tie
-use Rattle.reads.proofs.lookup.names_inside.Reads as reads
-use Rattle.reads.proofs.lookup.names_inside.Lts as lts
 
 abbrev Inv-loop : tie.InvT-loop
 Inv-loop s t n i₀ i = (i ≤ t .nvars) × (t .nvars ≤ 64) × ((k : ℕ) → k < i → Inside s t k ≡ true)
@@ -19,43 +17,33 @@ Inv-loop s t n i₀ i = (i ≤ t .nvars) × (t .nvars ≤ 64) × ((k : ℕ) → 
 abbrev μ-loop : tie.MeasureT-loop
 μ-loop s t n i₀ i = t .nvars - i
 
--- src/lookup.rt:19:9
 returns : tie.Need-returns Inv-loop μ-loop
 returns c = inside-many _ _ (c .if1 .taken)
 
--- src/lookup.rt:23:5
 loop-holds : tie.Need-loop-holds Inv-loop μ-loop
 loop-holds c = (omega arith, c .if1 .left, below-none _)
 
--- src/lookup.rt:24:17
 mul-v : tie.Need-mul-v Inv-loop μ-loop
 mul-v c = search needs
 
--- src/lookup.rt:24:17
 element-copy-out-v : tie.Need-element-copy-out-v Inv-loop μ-loop
 element-copy-out-v c = search needs
 
--- src/lookup.rt:26:13
 returns-2 : tie.Need-returns-2 Inv-loop μ-loop
 returns-2 c = inside-not _ _ _ (c .before .before .before .loop-test .taken) (omega (arith, c .if2 .taken))
 
--- src/lookup.rt:29:13
 returns-3 : tie.Need-returns-3 Inv-loop μ-loop
 returns-3 c = inside-not _ _ _ (c .before .before .before .before .before .before .loop-test .taken) (omega (arith, c .if3 .taken, c .before .before .before .if2 .left))
 
--- src/lookup.rt:31:9
 add-i : tie.Need-add-i Inv-loop μ-loop
 add-i c = search needs
 
--- src/lookup.rt:23:5
 loop-less : tie.Need-loop-less Inv-loop μ-loop
 loop-less c = search needs
 
--- src/lookup.rt:23:5
 loop-again : tie.Need-loop-again Inv-loop μ-loop
 loop-again c = let t = c .before .before .before .before .before .before .before .before .before .args .t2 in let v = varAt t (c .before .before .before .before .before .before .before .loop .i) in let h : v .name + v .chars ≤ length (c .before .before .before .before .before .before .before .before .before .args .s .now) = omega (arith, c .if3 .left, c .before .before .before .if2 .left) in (omega arith, c .before .before .before .before .before .before .before .loop .inv .1, below-more _ _ (c .before .before .before .before .before .before .before .loop .inv .2) (le-leb _ _ h))
 
--- src/lookup.rt:15:1
 returns-4 : tie.Need-returns-4 Inv-loop μ-loop
 returns-4 c = inside-all _ _ (c .before .loop .inv .1) (λ k l. c .before .loop .inv .2 k (omega arith))
 

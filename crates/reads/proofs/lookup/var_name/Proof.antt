@@ -1,4 +1,3 @@
-use Rattle.cdf.specs.Name.{part}
 use Rattle.grammar.specs.Tables.{varAt}
 use lib.ListN.{take, drop}
 use Prim.Native.Nat.{ℕ, _+_, _-_}
@@ -8,55 +7,40 @@ use native.Mathlib.Omega.{arith}
 use borrow.Author.Needs.{needs}
 use Rattle.reads.proofs.lookup.var_name.Statement.{statement}
 use Rattle.reads.proofs.lookup.var_name.Tie as tie
-use Rattle.reads.proofs.lookup.var_name.Reads as reads
-use Rattle.reads.proofs.lookup.var_name.Lts as lts
-use Rattle.reads.proofs.lookup.var_name_answer.Reads as var-name-answer-reads
 
--- src/lookup.rt:91:8
 var-name-answer-requires : tie.Need-var-name-answer-requires
 var-name-answer-requires c κs = search needs
 
--- src/lookup.rt:92:16
 sub-result : tie.Need-sub-result
 sub-result c = search needs
 
--- src/lookup.rt:92:16
 part-result-start : tie.Need-part-result-start
 part-result-start c = search needs
 
--- src/lookup.rt:92:16
 part-result-end : tie.Need-part-result-end
 part-result-end c = search needs
 
--- src/lookup.rt:92:9
 returns : tie.Need-returns
 returns c = name-none _ _ _ (λ e. c .before .if1 .taken (c .before .before .var-name-answer .ensures ∙ e))
 
--- src/lookup.rt:94:13
 mul-v : tie.Need-mul-v
 mul-v c = let p = answer-says _ _ _ (sym (c .before .var-name-answer .ensures) ∙ c .if1 .left) in omega (arith, few _ _ (p .0), p .1)
 
--- src/lookup.rt:94:13
 element-copy-out-v : tie.Need-element-copy-out-v
 element-copy-out-v c = let p = answer-says _ _ _ (sym (c .before .var-name-answer .ensures) ∙ c .if1 .left) in omega (arith, few _ _ (p .0), p .1)
 
--- src/lookup.rt:96:15
 add-end : tie.Need-add-end
 add-end c = let a = c .before .before .before .before .before .args in let p = answer-says (a .s .now) (a .t2) (a .i) (sym (c .before .before .before .var-name-answer .ensures) ∙ c .before .before .if1 .left) in omega (arith, name-in (a .s .now) (a .t2) (p .0) (a .i) (p .1))
 
--- src/lookup.rt:97:5
 sub-result-2 : tie.Need-sub-result-2
 sub-result-2 c = search needs
 
--- src/lookup.rt:97:5
 part-result-start-2 : tie.Need-part-result-start-2
 part-result-start-2 c = search needs
 
--- src/lookup.rt:97:5
 part-result-end-2 : tie.Need-part-result-end-2
 part-result-end-2 c = let a = c .before .before .before .before .before .args in let p = answer-says (a .s .now) (a .t2) (a .i) (sym (c .before .before .before .var-name-answer .ensures) ∙ c .before .before .if1 .left) in name-in (a .s .now) (a .t2) (p .0) (a .i) (p .1)
 
--- src/lookup.rt:88:1
 returns-2 : tie.Need-returns-2
 returns-2 c =
     let a = c .before .before .before .before .before .before .args in

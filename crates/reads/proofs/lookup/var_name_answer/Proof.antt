@@ -4,23 +4,16 @@ use mathlib.Core.Path.{sym, _∙_}
 use borrow.Author.Needs.{needs}
 use Rattle.reads.proofs.lookup.var_name_answer.Statement.{statement}
 use Rattle.reads.proofs.lookup.var_name_answer.Tie as tie
-use Rattle.reads.proofs.lookup.var_name_answer.Reads as reads
-use Rattle.reads.proofs.lookup.var_name_answer.Lts as lts
-use Rattle.reads.proofs.lookup.names_inside.Reads as names-inside-reads
 
--- src/lookup.rt:78:9
 names-inside-requires : tie.Need-names-inside-requires
 names-inside-requires c κs = search needs
 
--- src/lookup.rt:79:9
 returns : tie.Need-returns
 returns c = answer-outside _ _ (sym (c .before .names-inside .ensures) ∙ not-true _ (c .if1 .taken)) _
 
--- src/lookup.rt:82:9
 returns-2 : tie.Need-returns-2
 returns-2 c = answer-none _ _ (sym (c .before .before .before .names-inside .ensures) ∙ not-false _ (c .before .before .if1 .left)) _ (c .if2 .taken)
 
--- src/lookup.rt:75:1
 returns-3 : tie.Need-returns-3
 returns-3 c = answer-some _ _ (sym (c .before .before .before .names-inside .ensures) ∙ not-false _ (c .before .before .if1 .left)) _ (c .if2 .left)
 

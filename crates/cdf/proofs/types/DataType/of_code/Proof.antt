@@ -1,33 +1,24 @@
 use Rattle.cdf.specs.Types.{typeOf}
-use Prim.Native.Nat.{ℕ}
 use mathlib.Core.Path.{_≡_, ap, sym}
 use native.Mathlib.Omega.{arith}
 use Rattle.cdf.proofs.types.DataType.of_code.Statement.{statement}
 use Rattle.cdf.proofs.types.DataType.of_code.Tie as tie
-use Rattle.cdf.proofs.types.DataType.of_code.Reads as reads
-use Rattle.cdf.proofs.types.DataType.of_code.Lts as lts
 
--- src/types.rt:74:5
 returns : tie.Need-returns
 returns c = ap typeOf (sym (c .match .keys1))
 
--- src/types.rt:74:5
 returns-2 : tie.Need-returns-2
 returns-2 c = ap typeOf (sym (c .match .keys2))
 
--- src/types.rt:74:5
 returns-3 : tie.Need-returns-3
 returns-3 c = ap typeOf (sym (c .match .keys3))
 
--- src/types.rt:74:5
 returns-4 : tie.Need-returns-4
 returns-4 c = ap typeOf (sym (c .match .keys4))
 
--- src/types.rt:74:5
 returns-5 : tie.Need-returns-5
 returns-5 c = ap typeOf (sym (c .match .keys5))
 
--- src/types.rt:74:5
 returns-6 : tie.Need-returns-6
 returns-6 c = let e : c .before .args .code ≡ 6 = omega arith in ap typeOf (sym e)
 
