@@ -12,18 +12,23 @@ use Rattle.cdf.specs.Number.{be}
 abbrev pub byte : ℕ → ℤ
 byte b = toZ w8 b
 
+-- a short (BNF: SHORT), as the number of its 16 bits
 abbrev pub short : ℕ → ℤ
 short b = toZ w16 b
 
+-- an int (BNF: INT), as the number of its 32 bits
 abbrev pub int : ℕ → ℤ
 int b = toZ w32 b
 
+-- a float (BNF: FLOAT): IEEE 754, every NaN pattern being the one NaN
 abbrev pub float : ℕ → Float
 float b = ofBits binary32 b
 
+-- a double (BNF: DOUBLE), likewise
 abbrev pub double : ℕ → Float
 double b = ofBits binary64 b
 
+-- the bits themselves
 abbrev pub number : ℕ → ℕ
 number b = b
 

@@ -6,6 +6,7 @@ use lib.ListN.{getD}
 use lib.Dec.{ltb, leb}
 use Rattle.cdf.specs.Below.{allBelow}
 
+-- a character from `low` to `high`, both included
 unfoldable pub between : ℕ → ℕ → ℕ → Bool
 between low high c = leb low c && leb c high
 

@@ -8,6 +8,7 @@ use Rattle.hexlines.specs.Digit.{digits, spelled}
 use Rattle.hexlines.specs.declared.line.Line.{Line}
 use Rattle.hexlines.specs.declared.line.Line.the-variants.{Long, Hex, File}
 
+-- what a line is (01, the listing program): long, no hexadecimal, or the bytes of a file
 pub data Answer : Type 0 where
   long : Answer
   hex : Answer

@@ -13,6 +13,7 @@ use Rattle.io.specs.Digits.{digits}
 unfoldable pub places : ℕ → ℕ
 places n = firstBelow 20 (λ k. eqb k 0 || leb (10 ^ k) n)
 
+-- a number in decimal digits
 unfoldable pub decimal : ℕ → List ℕ
 decimal n = digits 10 (places n) n
 

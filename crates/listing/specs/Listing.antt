@@ -13,6 +13,7 @@ use Rattle.hexlines.specs.Text.{fields}
 abbrev pub room : ℕ
 room = 65536
 
+-- the longest text that a line prints
 abbrev pub most : ℕ
 most = 84
 
