@@ -1,11 +1,10 @@
 // The decoders, for a caller that nothing checks: 0, or 22 (output too short or too long for the bytes) and nothing is written.
 ghost use mathlib.Core.Path.{_≡_};
-ghost use mathlib.Core.Bool.{true};
-ghost use Prim.Native.Nat.{ℕ, _+_, _*_, _<_, _≤_};
+ghost use Prim.Native.Nat.{_*_};
 ghost use lib.Dec.{leb};
 ghost use lib.ListN.{length};
 ghost use Rattle.decode.specs.Values.{byte, short, int, float, double, number};
-ghost use Rattle.exports.specs.Decoded.{fitting, decoded};
+ghost use Rattle.exports.specs.Decoded.{fitting, decoded, recordsFit, fittingRecords, decodedRecords};
 use decode::chunk::decode_f32;
 use decode::chunk::decode_f64;
 use decode::chunk::decode_i8;
@@ -28,7 +27,7 @@ fn product_within(a: usize, b: usize, n: usize) -> bool
 
 // Whether `count` chunks have room in `out` elements, and stand within `src` bytes if one starts `stride` bytes after the other.
 fn floats_within(src: usize, out: usize, count: usize, chunk: usize, stride: usize) -> bool
-    ensures { λ r. ⌜ (r ≡ true → (count * chunk ≤ out) × ((k : ℕ) → k < count → k * stride + 4 * chunk ≤ src)) ⌝ }
+    ensures { λ r. ⌜ r ≡ recordsFit 4 src out count chunk stride ⌝ }
 {
     if count == 0 {
         return true;
@@ -137,7 +136,9 @@ pub extern "C" fn fungal_records_f32(
     count: usize,
     chunk: usize,
     stride: usize,
-) -> u8 {
+) -> u8
+    ensures { λ r. ⌜ (r ≡ fittingRecords 4 (length (now (src .entry))) (length (now (out .entry))) count chunk stride) × (now (out .exit) ≡ decodedRecords float 4 (now (src .entry)) (now (out .entry)) count chunk stride) ⌝ }
+{
     if !floats_within(src.len(), out.len(), count, chunk, stride) {
         return 22;
     }
