@@ -9,7 +9,3 @@ pub mod Word
 pub mod Magic
 pub mod Padding
 pub mod ListStart
-pub mod Utf8
-pub mod Name
-pub mod Types
-pub mod Values

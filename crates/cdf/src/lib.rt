@@ -6,7 +6,3 @@ pub mod word; // word.rt: words with a range
 pub mod version; // version.rt: magic word and version byte
 pub mod padding; // padding.rt: padding bytes
 pub mod list; // list.rt: how a list starts
-pub mod utf8; // utf8.rt: well-formed UTF-8
-pub mod name; // name.rt: names
-pub mod types; // types.rt: data types
-pub mod values; // values.rt: the bytes of an attribute's values

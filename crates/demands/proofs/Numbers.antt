@@ -11,9 +11,9 @@ use Rattle.cdf.specs.Form.{Form}
 use Rattle.cdf.specs.Word.{word, nonNegative, openCount, count, offset}
 use Rattle.cdf.specs.Padding.{zeroPadding}
 use Rattle.cdf.specs.ListStart.{listStart}
-use Rattle.cdf.specs.Name.{nameBytes, name}
-use Rattle.cdf.specs.Types.{dataType}
-use Rattle.cdf.specs.Values.{bytes, values}
+use Rattle.items.specs.Name.{nameBytes, name}
+use Rattle.items.specs.Types.{dataType}
+use Rattle.items.specs.Values.{bytes, values}
 use Rattle.grammar.specs.Dims.{dim, dimStep, dimList}
 use Rattle.grammar.specs.Attrs.{attrValues, attr, attrStep, globalList}
 use Rattle.grammar.specs.Vars.{dimid, varHead, varStart, varTail, varStep, varList}

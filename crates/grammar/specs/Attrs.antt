@@ -5,9 +5,9 @@ use Rattle.cdf.specs.Step.{Step, got, stop, bind, many}
 use Rattle.cdf.specs.Form.{Form}
 use Rattle.cdf.specs.Word.{nonNegative}
 use Rattle.cdf.specs.ListStart.{listStart}
-use Rattle.cdf.specs.Name.{name}
-use Rattle.cdf.specs.Types.{dataType, codeOf, sizeOf}
-use Rattle.cdf.specs.Values.{values}
+use Rattle.items.specs.Name.{name}
+use Rattle.items.specs.Types.{dataType, codeOf, sizeOf}
+use Rattle.items.specs.Values.{values}
 use Rattle.grammar.specs.Tables.{maxAttrs, addAttr, closeGlobals}
 use Rattle.grammar.specs.declared.tables.Attr.{Attr}
 use Rattle.grammar.specs.declared.attrs.AttrStep.{AttrStep}

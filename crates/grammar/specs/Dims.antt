@@ -5,7 +5,7 @@ use Rattle.cdf.specs.Step.{Step, got, stop, bind, many}
 use Rattle.cdf.specs.Form.{Form, form}
 use Rattle.cdf.specs.Word.{nonNegative}
 use Rattle.cdf.specs.ListStart.{listStart}
-use Rattle.cdf.specs.Name.{name}
+use Rattle.items.specs.Name.{name}
 use Rattle.grammar.specs.Tables.{maxDims, addDim}
 use Rattle.grammar.specs.declared.tables.Dim.{Dim}
 use Rattle.grammar.specs.declared.dims.DimStep.{DimStep}

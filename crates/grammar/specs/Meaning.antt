@@ -2,8 +2,8 @@
 use Prim.Native.Nat.{ℕ, zero, suc, _+_, _*_}
 use mathlib.Core.Path.{_≡_}
 use mathlib.Core.List.{List, [], _∷_, _++_}
-use Rattle.cdf.specs.Name.{part}
-use Rattle.cdf.specs.Types.{typeOf, sizeOf}
+use Rattle.items.specs.Name.{part}
+use Rattle.items.specs.Types.{typeOf, sizeOf}
 use Rattle.grammar.specs.Tables.{dimAt, attrAt, varAt, idAt}
 use Rattle.grammar.specs.declared.tables.Tables.{Tables}
 

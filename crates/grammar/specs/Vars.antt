@@ -6,8 +6,8 @@ use Rattle.cdf.specs.Step.{Step, got, stop, bind, many}
 use Rattle.cdf.specs.Form.{Form}
 use Rattle.cdf.specs.Word.{nonNegative, openCount, count, offset}
 use Rattle.cdf.specs.ListStart.{listStart}
-use Rattle.cdf.specs.Name.{name}
-use Rattle.cdf.specs.Types.{dataType, codeOf}
+use Rattle.items.specs.Name.{name}
+use Rattle.items.specs.Types.{dataType, codeOf}
 use Rattle.grammar.specs.Tables.{maxVars, maxRank, addVar}
 use Rattle.grammar.specs.Attrs.{attrCount, attrStep}
 use Rattle.grammar.specs.declared.tables.Var.{Var}

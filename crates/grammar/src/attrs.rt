@@ -13,14 +13,14 @@ use crate::tables::MAX_ATTRS;
 use crate::tables::Tables;
 use cdf::list::ATTRIBUTE_TAG;
 use cdf::list::parse_list_start;
-use cdf::name::parse_name_string;
 use cdf::step::Next;
 use cdf::step::Word;
-use cdf::types::DataType;
-use cdf::types::Typed;
-use cdf::types::parse_data_type;
-use cdf::values::parse_typed_data_elements;
 use cdf::word::parse_non_neg;
+use items::name::parse_name_string;
+use items::types::DataType;
+use items::types::Typed;
+use items::types::parse_data_type;
+use items::values::parse_typed_data_elements;
 
 pub enum AttrStep {
     Got(Attr, usize),

@@ -11,10 +11,10 @@ use crate::tables::MAX_DIMS;
 use crate::tables::Tables;
 use cdf::list::DIMENSION_TAG;
 use cdf::list::parse_list_start;
-use cdf::name::parse_name_string;
 use cdf::step::Next;
 use cdf::step::Word;
 use cdf::word::parse_non_neg;
+use items::name::parse_name_string;
 
 pub enum DimStep {
     Got(Dim, usize),

@@ -18,16 +18,16 @@ use crate::tables::Tables;
 use crate::tables::Var;
 use cdf::list::VARIABLE_TAG;
 use cdf::list::parse_list_start;
-use cdf::name::parse_name_string;
 use cdf::step::Next;
 use cdf::step::Word;
-use cdf::types::DataType;
-use cdf::types::Typed;
-use cdf::types::parse_data_type;
 use cdf::word::parse_count;
 use cdf::word::parse_non_neg;
 use cdf::word::parse_offset;
 use cdf::word::parse_open_count;
+use items::name::parse_name_string;
+use items::types::DataType;
+use items::types::Typed;
+use items::types::parse_data_type;
 
 // A variable's row with what was read of it so far, and where that ends; or the refusal.
 pub struct Rowed {

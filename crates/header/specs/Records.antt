@@ -6,7 +6,7 @@ use lib.ListN.{getD}
 use lib.Dec.{ltb, leb, eqb}
 use Rattle.cdf.specs.Below.{allBelow}
 use Rattle.cdf.specs.Padding.{padding}
-use Rattle.cdf.specs.Types.{typeOf, sizeOf}
+use Rattle.items.specs.Types.{typeOf, sizeOf}
 use Rattle.grammar.specs.Tables.{noDim}
 use Rattle.grammar.specs.Tables.{varAt, idAt}
 use Rattle.grammar.specs.declared.tables.Dim.{Dim}

@@ -5,17 +5,17 @@ ghost use mathlib.Core.Bool.{true, cond};
 ghost use Prim.Native.Nat.{ℕ, _+_, _*_, _≤_, _<_};
 ghost use lib.Dec.{ltb, leb};
 ghost use Rattle.cdf.specs.Padding.{padding};
-ghost use Rattle.cdf.specs.Types.{typeOf, sizeOf};
+ghost use Rattle.items.specs.Types.{typeOf, sizeOf};
 ghost use Rattle.grammar.specs.Tables.{idAt};
 ghost use Rattle.header.specs.Model.{idsHold};
 ghost use Rattle.header.specs.Records.{isRecord, outer, chunk, chunkBytes, recordSize, capped, maxChunk, maxPosition, lastEnd, sizesHold, endsHold};
 ghost use Rattle.grammar.specs.Within.{Within};
 use cdf::padding::compute_padding_size;
-use cdf::types::DataType;
 use grammar::tables::Dim;
 use grammar::tables::MAX_POSITION;
 use grammar::tables::Tables;
 use grammar::tables::Var;
+use items::types::DataType;
 
 // The largest padded chunk and record size.
 pub const MAX_CHUNK: u64 = 0x1000_0000_0000_0000;

@@ -7,19 +7,19 @@ ghost use lib.ListN.{length};
 ghost use Rattle.io.specs.Counts.{Counts};
 use cdf::list::DIMENSION_TAG;
 use cdf::list::parse_list_start;
-use cdf::name::parse_name_string;
 use cdf::padding::parse_zero_padding;
 use cdf::step::Next;
 use cdf::step::Word;
-use cdf::types::Typed;
-use cdf::types::parse_data_type;
-use cdf::values::parse_typed_data_elements;
 use cdf::version::Admitted;
 use cdf::version::parse_magic_word;
 use cdf::version::parse_version;
 use cdf::word::parse_non_neg;
 use cdf::word::parse_offset;
 use cdf::word::parse_open_count;
+use items::name::parse_name_string;
+use items::types::Typed;
+use items::types::parse_data_type;
+use items::values::parse_typed_data_elements;
 
 pub struct Answer {
     pub number: u8,

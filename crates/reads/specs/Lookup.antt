@@ -5,7 +5,7 @@ use mathlib.Core.List.{List, []}
 use lib.ListN.{length, getD}
 use lib.Dec.{ltb, leb, eqb}
 use Rattle.cdf.specs.Below.{allBelow, firstBelow}
-use Rattle.cdf.specs.Name.{part}
+use Rattle.items.specs.Name.{part}
 use Rattle.grammar.specs.Tables.{maxVars, varAt}
 use Rattle.grammar.specs.declared.tables.Tables.{Tables}
 use Rattle.reads.specs.declared.lookup.Found.{Found}

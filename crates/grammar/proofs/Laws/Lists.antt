@@ -5,9 +5,9 @@ use mathlib.Core.List.{List}
 use native.Mathlib.Omega.{arith}
 use lib.ListN.{length}
 use Rattle.cdf.specs.Form.{Form}
-use Rattle.cdf.specs.Types.{codeOf, sizeOf}
-use Rattle.cdf.specs.declared.types.DataType.{DataType}
-use Rattle.cdf.specs.declared.types.DataType.the-variants.{I8, U8, I16, I32, F32, F64}
+use Rattle.items.specs.Types.{codeOf, sizeOf}
+use Rattle.items.specs.declared.types.DataType.{DataType}
+use Rattle.items.specs.declared.types.DataType.the-variants.{I8, U8, I16, I32, F32, F64}
 use lib.Dec.{lit<, lit≤}
 use Rattle.cdf.specs.Step.{Step, got, stop, bind, many}
 use Rattle.cdf.specs.declared.step.Next.{Next}
@@ -15,9 +15,9 @@ use Rattle.cdf.specs.declared.step.Next.the-variants.{At}
 use Rattle.cdf.proofs.Laws.Step.{Ends, ended, bind-ends, many-ends, by-got, by-stop, bind-came, got-same}
 use Rattle.cdf.proofs.Laws.Word.{nonNegative-ends, openCount-ends, count-ends, offset-ends}
 use Rattle.cdf.proofs.Laws.ListStart.{start-ends}
-use Rattle.cdf.proofs.Laws.Name.{name-ends}
-use Rattle.cdf.proofs.Laws.Types.{type-ends}
-use Rattle.cdf.proofs.Laws.Values.{values-ends}
+use Rattle.items.proofs.Laws.Name.{name-ends}
+use Rattle.items.proofs.Laws.Types.{type-ends}
+use Rattle.items.proofs.Laws.Values.{values-ends}
 use Rattle.grammar.specs.Dims.{ofTables, dim, dimStep, dimList}
 use Rattle.grammar.specs.Attrs.{attrValues, attr, attrStep, attrCount, globalList}
 use Rattle.grammar.specs.Tables.{addVar, closeGlobals}

@@ -12,9 +12,9 @@ use lib.Dec.{ltb, leb, eqb, lit≤}
 use borrow.Author.Tests.{lt-ltb, le-ltb, le-leb, lt-leb, eq-eqb, ne-eqb, ltb-true, leb-true, eqb-true, eqb-false}
 use Rattle.cdf.specs.Below.{allBelow}
 use Rattle.cdf.specs.Padding.{padding}
-use Rattle.cdf.specs.Types.{typeOf, sizeOf}
-use Rattle.cdf.specs.declared.types.DataType.{DataType}
-use Rattle.cdf.specs.declared.types.DataType.the-variants.{I8, U8, I16, I32, F32, F64}
+use Rattle.items.specs.Types.{typeOf, sizeOf}
+use Rattle.items.specs.declared.types.DataType.{DataType}
+use Rattle.items.specs.declared.types.DataType.the-variants.{I8, U8, I16, I32, F32, F64}
 use Rattle.cdf.proofs.Laws.Below.{order, both, all-hold, one-fails, holds-at}
 use Rattle.grammar.specs.Tables.{varAt, idAt, dimAt}
 use Rattle.header.specs.Model.{idHolds, idsHold}

@@ -8,7 +8,7 @@ use lib.ListN.{length, getD}
 use lib.Dec.{ltb, leb, eqb}
 use borrow.Author.Tests.{lt-ltb, le-ltb, le-leb, lt-leb, eq-eqb, ne-eqb, leb-true, ltb-true}
 use Rattle.cdf.specs.Below.{allBelow, firstBelow}
-use Rattle.cdf.specs.Name.{part}
+use Rattle.items.specs.Name.{part}
 use Rattle.cdf.proofs.Laws.Below.{both, all-hold, one-fails, holds-at, first-none, first-is}
 use Rattle.grammar.specs.Tables.{maxVars, varAt}
 use Rattle.grammar.specs.declared.tables.Tables.{Tables}

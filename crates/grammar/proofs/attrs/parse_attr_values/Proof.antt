@@ -1,10 +1,10 @@
-use Rattle.cdf.specs.Values.{values}
+use Rattle.items.specs.Values.{values}
 use Rattle.grammar.specs.Attrs.{attrValues}
 use Rattle.grammar.proofs.Laws.Lists.{size-high}
 use Rattle.cdf.proofs.Laws.Word.{nonNegative-ends, nonNegative-below}
-use Rattle.cdf.proofs.Laws.Types.{type-ends}
+use Rattle.items.proofs.Laws.Types.{type-ends}
 use Rattle.cdf.proofs.Laws.Step.{got-ends, by-got, by-stop}
-use Rattle.cdf.specs.Types.{ofTyped}
+use Rattle.items.specs.Types.{ofTyped}
 use Rattle.cdf.specs.Magic.{ofNext}
 use Rattle.cdf.specs.Word.{ofWord}
 use Prim.Native.Nat.{ℕ, _≤_}

@@ -1,5 +1,5 @@
 use Rattle.grammar.specs.Dims.{dim}
-use Rattle.cdf.proofs.Laws.Name.{name-ends}
+use Rattle.items.proofs.Laws.Name.{name-ends}
 use Rattle.cdf.proofs.Laws.Step.{got-ends, by-got, by-stop}
 use Rattle.cdf.specs.Word.{ofWord}
 use mathlib.Core.Path.{refl, sym, ap, _∙_}

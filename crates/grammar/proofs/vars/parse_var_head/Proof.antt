@@ -1,6 +1,6 @@
 use Rattle.grammar.specs.declared.tables.Var.{Var}
 use Rattle.grammar.specs.Vars.{varHead}
-use Rattle.cdf.proofs.Laws.Name.{name-ends}
+use Rattle.items.proofs.Laws.Name.{name-ends}
 use Rattle.cdf.proofs.Laws.Word.{count-ends, count-within}
 use Rattle.cdf.proofs.Laws.Step.{got-ends, by-got, by-stop}
 use Rattle.cdf.specs.Word.{ofWord}

@@ -1,8 +1,8 @@
 use Rattle.grammar.specs.Vars.{varTail}
 use Rattle.cdf.proofs.Laws.Word.{openCount-ends}
-use Rattle.cdf.proofs.Laws.Types.{type-ends}
+use Rattle.items.proofs.Laws.Types.{type-ends}
 use Rattle.cdf.proofs.Laws.Step.{got-ends, by-got, by-stop}
-use Rattle.cdf.specs.Types.{ofTyped}
+use Rattle.items.specs.Types.{ofTyped}
 use Rattle.cdf.specs.Word.{ofWord}
 use mathlib.Core.Path.{refl, sym, ap, _∙_}
 use borrow.Author.Needs.{needs}

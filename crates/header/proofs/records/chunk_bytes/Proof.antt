@@ -1,5 +1,5 @@
 use Rattle.header.proofs.Laws.Records.{bytes-are}
-use Rattle.cdf.specs.Types.{sizeOf}
+use Rattle.items.specs.Types.{sizeOf}
 use Rattle.header.specs.Records.{chunk}
 use mathlib.Core.Path.{ap, _∙_}
 use borrow.Author.Needs.{needs}

@@ -1,0 +1,59 @@
+-- Laws of names.
+use Prim.Native.Nat.{ℕ, _+_, _-_, _≤_, _<_}
+use mathlib.Core.Path.{_≡_, refl, sym}
+use mathlib.Core.Bool.{Bool, true, false, cond}
+use mathlib.Core.List.{List}
+use native.Mathlib.Omega.{arith}
+use lib.ListN.{length}
+use lib.Dec.{ltb}
+use borrow.Author.Tests.{lt-leb, le-leb, leb-true}
+use Rattle.cdf.specs.Step.{Step, got, stop}
+use Rattle.cdf.specs.Word.{count}
+use Rattle.cdf.specs.Padding.{zeroPadding}
+use Rattle.items.specs.Utf8.{utf8}
+use Rattle.items.specs.Name.{longestName, part, nameBytes, name}
+use Rattle.cdf.proofs.Laws.Step.{Ends, ended, stopped, bind-ends, test-ends, unfinished-ends, by-got, by-stop, by-true, by-false, is-unfinished}
+use Rattle.cdf.proofs.Laws.Word.{count-ends}
+use Rattle.cdf.proofs.Laws.Padding.{padding-ends}
+
+module _ (n : ℕ) (s : List ℕ) (size at : ℕ) where
+  pub nameBytes-got : at + n ≤ length s → utf8 (part s at n) ≡ true → got tt (at + n) ≡ nameBytes n s size at
+  unfolding nameBytes
+  nameBytes-got h u = by-true _ (le-leb _ _ h) (by-true _ u refl)
+
+  pub nameBytes-short : {r : ℕ} → at ≤ length s → length s - at < n → r ≡ cond (ltb (length s) size) 1 2 → stop r (length s) ≡ nameBytes n s size at
+  unfolding nameBytes
+  nameBytes-short b h e = by-false _ (lt-leb (at + n) (length s) (omega arith)) (is-unfinished s size e)
+
+  pub nameBytes-bad : at + n ≤ length s → utf8 (part s at n) ≡ false → stop 6 at ≡ nameBytes n s size at
+  unfolding nameBytes
+  nameBytes-bad h u = by-true _ (le-leb _ _ h) (by-false _ u refl)
+
+  pub nameBytes-ends : Ends (length s) (nameBytes n s size at)
+  unfolding nameBytes
+  nameBytes-ends = test-ends _ _ _ (λ h. test-ends _ _ _ (λ _. ended _ _ (leb-true _ _ h)) (λ _. stopped _ _)) (λ _. unfinished-ends s size)
+
+module _ (k : ℕ) (s : List ℕ) (size at : ℕ) where
+  pub name-count-stops : {r p : ℕ} → stop r p ≡ count longestName k s size at → stop r p ≡ name k s size at
+  unfolding name
+  name-count-stops e = by-stop _ e
+
+  module _ {n p : ℕ} (counted : got n p ≡ count longestName k s size at) where
+    pub name-bytes-stop : {r q : ℕ} → stop r q ≡ nameBytes n s size p → stop r q ≡ name k s size at
+    unfolding name
+    name-bytes-stop e = by-got _ _ counted (by-stop _ e)
+
+    module _ {e : ℕ} (read : got tt e ≡ nameBytes n s size p) where
+      pub name-padding-stops : {r q : ℕ} → stop r q ≡ zeroPadding n s size e → stop r q ≡ name k s size at
+      unfolding name
+      name-padding-stops f = by-got _ _ counted (by-got _ _ read (by-stop _ f))
+
+      pub name-got : {q : ℕ} → got tt q ≡ zeroPadding n s size e → got n q ≡ name k s size at
+      unfolding name
+      name-got f = by-got _ _ counted (by-got _ _ read (by-got _ _ f refl))
+
+  pub name-ends : Ends (length s) (name k s size at)
+  unfolding name
+  name-ends =
+      bind-ends _ _ (count-ends k s size at longestName)
+      (λ n p _. bind-ends _ _ (nameBytes-ends n s size p) (λ _ e _. bind-ends _ _ (padding-ends n s size e) (λ _ q h. ended _ _ h)))
