@@ -1,7 +1,6 @@
 -- The laws of the definitions in specs/, under the same file names. Proofs of functions cite these and open no definition.
 pub mod Step
 pub mod Below
-pub mod Number
 pub mod Word
 pub mod Magic
 pub mod Padding

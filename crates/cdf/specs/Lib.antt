@@ -2,8 +2,6 @@
 -- rule of the format's grammar ("BNF: ..") that the definition writes down.
 pub mod Step
 pub mod Below
-pub mod Number
-pub mod Turn
 pub mod Form
 pub mod Word
 pub mod Magic

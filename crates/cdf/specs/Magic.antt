@@ -1,6 +1,6 @@
 -- The first four bytes (01, Header grammar: "`CDF`; version byte"; BNF: magic).
 use Prim.Native.Nat.{ℕ, _+_}
-use mathlib.Core.Bool.{Bool, _||_, _&&_}
+use mathlib.Core.Bool.{Bool, true, _||_, _&&_}
 use mathlib.Core.List.{List, [], _∷_}
 use lib.ListN.{length, getD}
 use lib.Dec.{ltb, leb, eqb}
@@ -26,6 +26,10 @@ cdf = 67 ∷ 68 ∷ 70 ∷ []
 -- 01, number 3: as soon as a byte at hand departs, place 0
 unfoldable pub magic : List ℕ → ℕ → Step Unit
 magic s size = test (begins cdf s 0) (test (leb 3 (length s)) (got tt 3) (unfinished s size)) (stop 3 0)
+
+-- 01: "the admitted versions (1, 2 or both)"
+abbrev pub bothVersions : Admitted
+bothVersions = record { classic = true; offset64 = true }
 
 -- a version that a reader admits: 1 or 2, where its set has it
 unfoldable pub admits : Admitted → ℕ → Bool

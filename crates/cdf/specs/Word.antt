@@ -5,7 +5,7 @@ use mathlib.Core.List.{List}
 use lib.ListN.{length}
 use lib.Dec.{ltb, leb, eqb}
 use Rattle.cdf.specs.Step.{Step, got, stop, bind, test, unfinished}
-use Rattle.cdf.specs.Number.{be, half, extended}
+use Rattle.bigendian.specs.Number.{be, half, extended}
 use Rattle.cdf.specs.declared.step.Word.{Word}
 use Rattle.cdf.specs.declared.step.Word.the-variants.{Got, Stop}
 

@@ -4,10 +4,10 @@ ghost use Prim.Native.Nat.{_≤_};
 ghost use lib.ListN.{length};
 ghost use Rattle.cdf.specs.Form.{form};
 ghost use Rattle.cdf.specs.Word.{ofWord, word, nonNegative, openCount, count, offset};
-use crate::number::be32;
-use crate::number::be64;
 use crate::step::Word;
 use crate::step::unfinished;
+use bigendian::number::be32;
+use bigendian::number::be64;
 
 // The count word that leaves the number of records open; also a vsize that is no number word.
 pub const INDETERMINATE: u64 = 0xffff_ffff;

@@ -5,7 +5,7 @@ use lib.IntN.{ℤ}
 use lib.Ieee.{Float, binary32, binary64, ofBits}
 use mir.Syntax.{w8, w16, w32}
 use mir.Val.{toZ}
-use Rattle.cdf.specs.Number.{be}
+use Rattle.bigendian.specs.Number.{be}
 
 -- the value of a type that a big-endian number stands for: two's complement for byte, short and int, IEEE 754 for float and double, where
 -- every NaN pattern is the one `nan`. A char is its number, and so are the bits of a float or a double

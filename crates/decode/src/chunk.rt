@@ -13,9 +13,9 @@ use crate::pattern::i32_of;
 use crate::short::be16;
 use crate::short::low16;
 use crate::short::swap16;
-use cdf::number::be32;
-use cdf::number::be64;
-use cdf::number::le32;
+use bigendian::number::be32;
+use bigendian::number::be64;
+use bigendian::number::le32;
 
 // Bytes.
 pub fn decode_i8(src: &[u8], out: &mut [i8])

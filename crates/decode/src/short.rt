@@ -2,7 +2,7 @@
 ghost use mathlib.Core.Path.{_≡_};
 ghost use Prim.Native.Nat.{_+_, _*_, _/_, _%_, _<_, _≤_};
 ghost use lib.ListN.{length};
-ghost use Rattle.cdf.specs.Number.{be};
+ghost use Rattle.bigendian.specs.Number.{be};
 ghost use Rattle.decode.specs.Halves.{swapped};
 
 fn wide16(b: u8) -> u16

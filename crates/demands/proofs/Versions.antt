@@ -13,7 +13,7 @@ use borrow.Author.Tests.{le-ltb, lt-ltb, eq-eqb, ne-eqb, eqb-true, eqb-false, le
 use Rattle.cdf.specs.Step.{Step, got, stop, bind, test, unfinished}
 use Rattle.cdf.specs.Form.{form}
 use Rattle.cdf.specs.Word.{openCount}
-use Rattle.cdf.specs.Magic.{cdf, begins, magic, admits, version}
+use Rattle.cdf.specs.Magic.{cdf, begins, magic, bothVersions, admits, version}
 use Rattle.cdf.specs.declared.version.Admitted.{Admitted}
 use Rattle.cdf.proofs.Laws.Below.{order}
 use Rattle.cdf.proofs.Laws.Step.{by-got, by-stop}
@@ -25,7 +25,6 @@ use Rattle.header.specs.Header.{answer, judged, readHeader}
 use Rattle.header.specs.Records.{maxPosition}
 use Rattle.header.proofs.Laws.Header.{read-stops}
 use Rattle.demands.proofs.Numbers.{Not4, gives, stops, bind-not4, test-not4, short, openCount-not4, lists-not4, judged-not4, answer-not4}
-use Rattle.demands.specs.Examples.{both}
 use Rattle.demands.specs.Versions.{only, Another, OneVersion}
 
 -- a byte is a number or another
@@ -37,7 +36,7 @@ decide a b = split (eqb a b) refl
     split false e = inr (eqb-false a b e)
 
 -- the one version is admitted as by the full reader, any other is not
-admits-own : (v b : ℕ) → (v ≡ 1) ⊎ (v ≡ 2) → b ≡ v → admits (only v) b ≡ admits both b
+admits-own : (v b : ℕ) → (v ≡ 1) ⊎ (v ≡ 2) → b ≡ v → admits (only v) b ≡ admits bothVersions b
 unfolding admits
 admits-own v b (inl e) f = rw (f, e)
 admits-own v b (inr e) f = rw (f, e)
@@ -80,7 +79,7 @@ module _ (v : ℕ) (one : (v ≡ 1) ⊎ (v ≡ 2)) (s : List ℕ) (size : ℕ) w
       (by-stop _ (version-bad (only v) s size 3 (a .four) refl (admits-other v (getD s 3 0) one (a .other))))
 
   module _ (same : Another s v → ⊥) where
-    same-version : begins cdf s 0 ≡ true → version (only v) s size 3 ≡ version both s size 3
+    same-version : begins cdf s 0 ≡ true → version (only v) s size 3 ≡ version bothVersions s size 3
     unfolding version test
     same-version b =
         ⊎-elim
@@ -100,13 +99,13 @@ module _ (v : ℕ) (one : (v ≡ 1) ⊎ (v ≡ 2)) (s : List ℕ) (size : ℕ) w
     after-magic a u p = bind (version a s size p) rest
 
     by-magic : (b c : Bool) → begins cdf s 0 ≡ b
-        → bind (test b (test c (got tt 3) (unfinished s size)) (stop 3 0)) (after-magic (only v)) ≡ bind (test b (test c (got tt 3) (unfinished s size)) (stop 3 0)) (after-magic both)
+        → bind (test b (test c (got tt 3) (unfinished s size)) (stop 3 0)) (after-magic (only v)) ≡ bind (test b (test c (got tt 3) (unfinished s size)) (stop 3 0)) (after-magic bothVersions)
     unfolding bind test unfinished after-magic
     by-magic true true e = ap (λ (m : Step ℕ). bind m rest) (same-version e)
     by-magic true false e = refl
     by-magic false c e = refl
 
-    same-header : header (only v) s size ≡ header both s size
+    same-header : header (only v) s size ≡ header bothVersions s size
     unfolding header magic after-magic rest
     same-header = by-magic (begins cdf s 0) (leb 3 (length s)) refl
 

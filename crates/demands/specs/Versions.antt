@@ -7,11 +7,10 @@ use mathlib.Core.Logic.{_⊎_}
 use mathlib.Core.List.{List}
 use lib.ListN.{length, getD, take}
 use lib.Dec.{eqb}
-use Rattle.cdf.specs.Magic.{cdf}
+use Rattle.cdf.specs.Magic.{cdf, bothVersions}
 use Rattle.cdf.specs.declared.version.Admitted.{Admitted}
 use Rattle.header.specs.Header.{readHeader, refusal}
 use Rattle.header.specs.Records.{maxPosition}
-use Rattle.demands.specs.Examples.{both}
 
 -- a reader that admits version v alone
 abbrev pub only : ℕ → Admitted
@@ -29,4 +28,4 @@ OneVersion =
     (v : ℕ) → (v ≡ 1) ⊎ (v ≡ 2) → (s : List ℕ) (size : ℕ) → length s ≤ size → size ≤ maxPosition
     → (Another s v → readHeader s size (only v) ≡ refusal 4 3)
     × (readHeader s size (only v) .number ≡ 4 → Another s v)
-    × ((Another s v → ⊥) → readHeader s size (only v) ≡ readHeader s size both)
+    × ((Another s v → ⊥) → readHeader s size (only v) ≡ readHeader s size bothVersions)

@@ -1,9 +1,8 @@
 -- What the listing program prints for a line (01, listing program).
 use Prim.Native.Nat.{ℕ}
-use mathlib.Core.Bool.{true}
 use mathlib.Core.List.{List, [], _∷_}
 use lib.ListN.{length}
-use Rattle.cdf.specs.declared.version.Admitted.{Admitted}
+use Rattle.cdf.specs.Magic.{bothVersions}
 use Rattle.header.specs.Header.{readHeader}
 use Rattle.header.specs.declared.reader.Header.{Header}
 use Rattle.hexlines.specs.Line.{Answer, long, hex, file}
@@ -17,17 +16,13 @@ room = 65536
 abbrev pub most : ℕ
 most = 84
 
--- 01: "admits both versions"
-unfoldable pub both : Admitted
-both = record { classic = true; offset64 = true }
-
 -- 01: "Fields: answer number, place, record count, header end"
 unfoldable pub headerText : Header → List ℕ
 headerText h = fields (h .number) (h .place) (h .tables .count) (h .end)
 
 -- the whole file is given, so its size is its length
 unfoldable pub fileText : List ℕ → List ℕ
-fileText s = headerText (readHeader s (length s) both)
+fileText s = headerText (readHeader s (length s) bothVersions)
 
 -- 01: `long`, `hex`, or the fields, and a line end
 unfoldable pub text : Answer → List ℕ

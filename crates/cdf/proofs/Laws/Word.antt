@@ -8,9 +8,9 @@ use lib.ListN.{length}
 use lib.Dec.{ltb, leb}
 use borrow.Author.Tests.{lt-ltb, le-ltb, lt-leb, le-leb, leb-true, ltb-true, eq-eqb, ne-eqb}
 use Rattle.cdf.specs.Step.{Step, got, stop, bind, test, unfinished}
-use Rattle.cdf.specs.Number.{be, half, extended}
+use Rattle.bigendian.specs.Number.{be, half, extended}
 use Rattle.cdf.specs.Word.{word, nonNegative, openCount, count, offset}
-use Rattle.cdf.proofs.Laws.Number.{extended-8}
+use Rattle.bigendian.proofs.Laws.Number.{extended-8}
 use Rattle.cdf.proofs.Laws.Step.{Ends, ended, stopped, bind-ends, test-ends, unfinished-ends, by-got, by-stop, by-true, by-false, is-unfinished, bind-came, test-came, got-same}
 
 module _ (k : ℕ) (s : List ℕ) (size at : ℕ) where

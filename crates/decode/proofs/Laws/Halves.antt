@@ -5,8 +5,8 @@ use Prim.Native.Nat.{ℕ, _+_, _*_, _/_, _%_, _<_}
 use native.Mathlib.Nat.{add-zero, zero-add, add-assoc}
 use native.Mathlib.Omega.{arith}
 use lib.ListN.{getD}
-use Rattle.cdf.specs.Number.{be}
-use Rattle.cdf.specs.Turn.{little}
+use Rattle.bigendian.specs.Number.{be}
+use Rattle.bigendian.specs.Turn.{little}
 use Rattle.decode.specs.Halves.{swapped}
 
 pub be-2 : (s : List ℕ) (p : ℕ) → be 2 s p ≡ getD s p 0 * 256 + getD s (p + 1) 0

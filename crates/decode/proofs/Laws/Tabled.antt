@@ -8,8 +8,8 @@ use native.Mathlib.Omega.{arith}
 use lib.ListN.{length, take, drop, length-drop}
 use lib.Seq.{length-take-le, take-at, drop-at, drop-drop}
 use borrow.Rule.Slice.PartMut.{putMid, same-len-mid, mid-len}
-use Rattle.cdf.specs.Number.{be}
-use Rattle.cdf.proofs.Laws.Number.{be-part}
+use Rattle.bigendian.specs.Number.{be}
+use Rattle.bigendian.proofs.Laws.Number.{be-part}
 use Rattle.decode.specs.Lists.{tab, table}
 use Rattle.decode.proofs.Laws.Lists.{length-tab, tab-ext, row-in, length-table}
 

@@ -15,7 +15,7 @@ use borrow.Author.Tests.{lt-ltb, le-ltb}
 use mir.Syntax.{Width}
 use mir.Val.{toZ, ofZ, bits, hbits, SFits}
 use mir.ValLaws.{toZ-pos, toZ-neg, toZ-ofZ}
-use Rattle.cdf.specs.Number.{be}
+use Rattle.bigendian.specs.Number.{be}
 
 -- ---- floats: a pattern above an infinity's, its sign dropped, is a NaN's, and no other is
 

@@ -7,7 +7,8 @@ use lib.ListN.{length, set, drop}
 use borrow.Author.Tests.{lt-ltb, le-ltb}
 use Rattle.header.specs.Header.{readHeader}
 use Rattle.header.specs.declared.reader.Header.{Header}
-use Rattle.exports.specs.Numbers.{both, numbersOf, answered, written}
+use Rattle.cdf.specs.Magic.{bothVersions}
+use Rattle.exports.specs.Numbers.{numbersOf, answered, written}
 
 -- eight stores, one after the other
 eight : (h : Header) (d : List ℕ) → 8 ≤ length d
@@ -33,11 +34,11 @@ module _ (s : List ℕ) (size : ℕ) (d : List ℕ) where
   unfolding written
   written-short h = rw (lt-ltb (length d) 8 h)
 
-  pub answered-read : {h : Header} → h ≡ readHeader s size both → 8 ≤ length d → h .number ≡ answered s size (length d)
+  pub answered-read : {h : Header} → h ≡ readHeader s size bothVersions → 8 ≤ length d → h .number ≡ answered s size (length d)
   unfolding answered
   answered-read e l = rw (le-ltb (length d) 8 l) (ap (λ (h : Header). h .number) e)
 
-  pub written-read : {h : Header} → h ≡ readHeader s size both → 8 ≤ length d
+  pub written-read : {h : Header} → h ≡ readHeader s size bothVersions → 8 ≤ length d
       → set (set (set (set (set (set (set (set d 0 (h .place)) 1 (h .end)) 2 (h .tables .count)) 3 (h .tables .version)) 4 (h .tables .ndims)) 5 (h .tables .nattrs)) 6 (h .tables .globals)) 7 (h .tables .nvars)
       ≡ written s size d
   unfolding written

@@ -8,9 +8,10 @@ use Rattle.header.specs.Header.{readHeader}
 use Rattle.header.specs.declared.reader.Header.{Header}
 use Rattle.hexlines.specs.Line.{Answer, long, hex, file}
 use Rattle.hexlines.specs.Text.{fields, Grown}
-use Rattle.listing.specs.Listing.{both, headerText, fileText, text}
+use Rattle.listing.specs.Listing.{headerText, fileText, text}
+use Rattle.cdf.specs.Magic.{bothVersions}
 
-pub file-text : (s : List ℕ) (h : Header) (n : ℕ) → h ≡ readHeader s (length s) both → n ≡ h .number
+pub file-text : (s : List ℕ) (h : Header) (n : ℕ) → h ≡ readHeader s (length s) bothVersions → n ≡ h .number
     → fields n (h .place) (h .tables .count) (h .end) ≡ fileText s
 unfolding fileText headerText
 file-text s h n e f = ap (λ (k : ℕ). fields k (h .place) (h .tables .count) (h .end)) f ∙ ap headerText e

@@ -1,7 +1,6 @@
 use borrow.Author.Needs.{needs}
 use native.Mathlib.Omega.{arith}
 use Rattle.hexlines.proofs.Laws.Text.{grown-is}
-use Rattle.listing.specs.Listing.{both}
 use Rattle.listing.proofs.Laws.Listing.{file-text}
 use Rattle.listing.proofs.put_file.Statement.{statement}
 use Rattle.listing.proofs.put_file.Tie as tie
@@ -19,7 +18,6 @@ same-length : tie.Need-same-length
 same-length c = search needs
 
 returns : tie.Need-returns
-unfolding both
 returns c = (
   grown-is (c .before .before .put-fields .ensures .0) (file-text _ (c .before .before .before .before .before .before .read-header .result) _ (c .before .before .before .before .before .before .read-header .ensures) (c .before .before .before .before .before .wide .ensures)),
   omega arith,

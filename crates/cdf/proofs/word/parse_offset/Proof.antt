@@ -1,6 +1,6 @@
 use native.Mathlib.Omega.{arith}
 use Rattle.cdf.proofs.Laws.Word.{offset-stop, offset-got, word-is, offset-8}
-use Rattle.cdf.proofs.Laws.Number.{extended-low, extended-high, be-fits}
+use Rattle.bigendian.proofs.Laws.Number.{extended-low, extended-high, be-fits}
 use borrow.Author.Tests.{eq-eqb, ne-eqb}
 use Rattle.cdf.specs.Word.{ofWord}
 use mathlib.Core.Path.{sym, ap, _∙_}

@@ -1,8 +1,8 @@
-use Rattle.cdf.proofs.Laws.Number.{be-turned-8}
+use Rattle.bigendian.proofs.Laws.Number.{be-turned-8}
 use mathlib.Core.Path.{_∙_}
 use borrow.Author.Needs.{needs}
-use Rattle.cdf.proofs.number.be64.Statement.{statement}
-use Rattle.cdf.proofs.number.be64.Tie as tie
+use Rattle.bigendian.proofs.number.be64.Statement.{statement}
+use Rattle.bigendian.proofs.number.be64.Tie as tie
 
 le64-requires : tie.Need-le64-requires
 le64-requires c κs = search needs

@@ -1,8 +1,8 @@
-use Rattle.cdf.proofs.Laws.Number.{be-turned}
+use Rattle.bigendian.proofs.Laws.Number.{be-turned}
 use mathlib.Core.Path.{_∙_}
 use borrow.Author.Needs.{needs}
-use Rattle.cdf.proofs.number.be32.Statement.{statement}
-use Rattle.cdf.proofs.number.be32.Tie as tie
+use Rattle.bigendian.proofs.number.be32.Statement.{statement}
+use Rattle.bigendian.proofs.number.be32.Tie as tie
 
 le32-requires : tie.Need-le32-requires
 le32-requires c κs = search needs

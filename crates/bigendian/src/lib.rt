@@ -1,0 +1,2 @@
+// Big-endian numbers.
+pub mod number; // number.rt: four and eight bytes
