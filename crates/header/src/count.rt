@@ -5,7 +5,7 @@ ghost use Prim.Native.Nat.{min, _≤_, _<_};
 ghost use Rattle.header.specs.Model.{idsHold};
 ghost use Rattle.header.specs.Records.{recordSize};
 ghost use Rattle.header.specs.Count.{ofCounted, firstBegin, divided, recordCount};
-ghost use Rattle.grammar.specs.Within.{Within};
+ghost use Rattle.grammar.specs.Within.{Shaped};
 use crate::model::unlimited;
 use crate::records::is_record;
 use cdf::word::INDETERMINATE;
@@ -31,7 +31,7 @@ fn nearer(records: bool, least: u64, begin: u64) -> u64
 
 // The smallest begin of a record variable.
 fn first_begin(t: Tables) -> u64
-    requires { ⌜ Within t × (idsHold t ≡ true) ⌝ }
+    requires { ⌜ Shaped t × (idsHold t ≡ true) ⌝ }
     ensures { λ r. ⌜ r ≡ firstBegin t ⌝ }
 {
     let dims = t.dims;
@@ -64,7 +64,7 @@ fn divided(size: u64, first: u64, step: u64) -> Counted
 
 // The record count of tables whose records have `step` bytes.
 pub fn record_count(t: Tables, step: u64) -> Counted
-    requires { ⌜ Within t × (idsHold t ≡ true) × (step ≡ recordSize t) ⌝ }
+    requires { ⌜ Shaped t × (idsHold t ≡ true) × (step ≡ recordSize t) ⌝ }
     ensures { λ r. ⌜ ofCounted r ≡ recordCount t ⌝ }
 {
     if t.ndims <= unlimited(t) {

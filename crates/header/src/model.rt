@@ -2,7 +2,7 @@
 ghost use mathlib.Core.Path.{_≡_};
 ghost use Prim.Native.Nat.{_≤_};
 ghost use Rattle.header.specs.Model.{namesHold, unlimited, oneUnlimited, idHolds, idsHold, modelHolds};
-ghost use Rattle.grammar.specs.Within.{Within};
+ghost use Rattle.grammar.specs.Within.{Within, Shaped};
 use crate::names::attr_names_hold;
 use crate::names::dim_names_hold;
 use crate::names::var_names_hold;
@@ -83,8 +83,8 @@ fn index(id: u32) -> usize
 }
 
 // Whether every id names a dimension, and the unlimited dimension stands only first.
-fn ids_hold(t: Tables) -> bool
-    requires { ⌜ Within t ⌝ }
+pub fn ids_hold(t: Tables) -> bool
+    requires { ⌜ Shaped t ⌝ }
     ensures { λ r. ⌜ r ≡ idsHold t ⌝ }
 {
     let dims = t.dims;

@@ -9,7 +9,7 @@ ghost use Rattle.items.specs.Types.{typeOf, sizeOf};
 ghost use Rattle.grammar.specs.Tables.{idAt};
 ghost use Rattle.header.specs.Model.{idsHold};
 ghost use Rattle.header.specs.Records.{isRecord, outer, chunk, chunkBytes, recordSize, capped, maxChunk, maxPosition, lastEnd, sizesHold, endsHold};
-ghost use Rattle.grammar.specs.Within.{Within};
+ghost use Rattle.grammar.specs.Within.{Shaped};
 use cdf::padding::compute_padding_size;
 use grammar::tables::Dim;
 use grammar::tables::MAX_POSITION;
@@ -98,7 +98,7 @@ fn record_part(records: bool, bytes: u64) -> u64
 
 // Rule 12, and the record size.
 pub fn measure(t: Tables) -> Sizes
-    requires { ⌜ Within t × (idsHold t ≡ true) ⌝ }
+    requires { ⌜ Shaped t × (idsHold t ≡ true) ⌝ }
     ensures { λ r. ⌜ (r .hold ≡ sizesHold t) × (r .hold ≡ true → r .step ≡ recordSize t) ⌝ }
 {
     let broken = Sizes {
@@ -157,7 +157,7 @@ fn end_holds(records: bool, begin: u64, padded: u64, step: u64, n: u64) -> bool
 
 // Rule 15, where rule 12 holds, for `n` records of `step` bytes.
 pub fn ends_hold(t: Tables, step: u64, n: u64) -> bool
-    requires { ⌜ Within t × (idsHold t ≡ true) × (sizesHold t ≡ true) × (step ≡ recordSize t) ⌝ }
+    requires { ⌜ Shaped t × (idsHold t ≡ true) × (sizesHold t ≡ true) × (step ≡ recordSize t) ⌝ }
     ensures { λ r. ⌜ r ≡ endsHold t n ⌝ }
 {
     let dims = t.dims;

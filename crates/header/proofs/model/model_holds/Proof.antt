@@ -2,6 +2,7 @@ use Rattle.header.proofs.Laws.Model.{model-names, model-unlimited, mode
 use borrow.Author.Tests.{not-true, not-false}
 use mathlib.Core.Path.{sym, _∙_}
 use borrow.Author.Needs.{needs}
+use Rattle.grammar.proofs.Laws.Within.{within-shaped}
 use Rattle.header.proofs.model.model_holds.Statement.{statement}
 use Rattle.header.proofs.model.model_holds.Tie as tie
 
@@ -18,7 +19,7 @@ returns-2 : tie.Need-returns-2
 returns-2 c = model-unlimited _ _ (sym (c .before .before .before .names-hold .ensures) ∙ not-false _ (c .before .before .if1 .left)) (sym (c .before .one-unlimited .ensures) ∙ not-true _ (c .if2 .taken))
 
 ids-hold-requires : tie.Need-ids-hold-requires
-ids-hold-requires c κs = search needs
+ids-hold-requires c κs = within-shaped (c .before .before .before .before .before .pre)
 
 returns-3 : tie.Need-returns-3
 returns-3 c = model-ids _ _ (sym (c .before .before .before .before .names-hold .ensures) ∙ not-false _ (c .before .before .before .if1 .left)) (sym (c .before .before .one-unlimited .ensures) ∙ not-false _ (c .before .if2 .left)) (c .ids-hold .ensures)

@@ -4,6 +4,7 @@ use Rattle.header.specs.Count.{ofCounted}
 use borrow.Author.Tests.{not-true, not-false}
 use mathlib.Core.Path.{sym, ap, _∙_}
 use borrow.Author.Needs.{needs}
+use Rattle.grammar.proofs.Laws.Within.{within-shaped}
 use Rattle.header.proofs.reader.judged.Statement.{statement}
 use Rattle.header.proofs.reader.judged.Tie as tie
 
@@ -17,7 +18,7 @@ returns : tie.Need-returns
 returns c = answer-stop (c .refused .ensures) (judged-model _ _ _ (sym (c .before .before .model-holds .ensures) ∙ not-true _ (c .before .if1 .taken)))
 
 measure-requires : tie.Need-measure-requires
-measure-requires c κs = (c .before .before .before .pre, model-has-ids _ _ (sym (c .before .model-holds .ensures) ∙ not-false _ (c .if1 .left)))
+measure-requires c κs = (within-shaped (c .before .before .before .pre), model-has-ids _ _ (sym (c .before .model-holds .ensures) ∙ not-false _ (c .if1 .left)))
 
 refused-requires-2 : tie.Need-refused-requires-2
 refused-requires-2 c κs = search needs
@@ -26,7 +27,7 @@ returns-2 : tie.Need-returns-2
 returns-2 c = answer-stop (c .refused2 .ensures) (judged-sizes _ _ _ (sym (c .before .before .before .before .before .model-holds .ensures) ∙ not-false _ (c .before .before .before .before .if1 .left)) (sym (c .before .before .before .measure .ensures .0) ∙ not-true (c .before .before .before .measure .result .hold) (c .before .if2 .taken)))
 
 record-count-requires : tie.Need-record-count-requires
-record-count-requires c κs = let m = c .before .before .measure in (c .before .before .before .before .before .before .pre, model-has-ids _ _ (sym (c .before .before .before .before .model-holds .ensures) ∙ not-false _ (c .before .before .before .if1 .left)), m .ensures .1 (not-false (m .result .hold) (c .if2 .left)))
+record-count-requires c κs = let m = c .before .before .measure in (within-shaped (c .before .before .before .before .before .before .pre), model-has-ids _ _ (sym (c .before .before .before .before .model-holds .ensures) ∙ not-false _ (c .before .before .before .if1 .left)), m .ensures .1 (not-false (m .result .hold) (c .if2 .left)))
 
 enum-known-k : tie.Need-enum-known-k
 enum-known-k c = search needs
@@ -38,7 +39,7 @@ enum-known-n : tie.Need-enum-known-n
 enum-known-n c = search needs
 
 ends-hold-requires : tie.Need-ends-hold-requires
-ends-hold-requires c κs = let m = c .before .before .before .before .before .before .measure in let h = not-false (m .result .hold) (c .before .before .before .before .if2 .left) in (c .before .before .before .before .before .before .before .before .before .before .pre, model-has-ids _ _ (sym (c .before .before .before .before .before .before .before .before .model-holds .ensures) ∙ not-false _ (c .before .before .before .before .before .before .before .if1 .left)), sym (m .ensures .0) ∙ h, m .ensures .1 h)
+ends-hold-requires c κs = let m = c .before .before .before .before .before .before .measure in let h = not-false (m .result .hold) (c .before .before .before .before .if2 .left) in (within-shaped (c .before .before .before .before .before .before .before .before .before .before .pre), model-has-ids _ _ (sym (c .before .before .before .before .before .before .before .before .model-holds .ensures) ∙ not-false _ (c .before .before .before .before .before .before .before .if1 .left)), sym (m .ensures .0) ∙ h, m .ensures .1 h)
 
 refused-requires-4 : tie.Need-refused-requires-4
 refused-requires-4 c κs = search needs
