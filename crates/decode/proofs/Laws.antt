@@ -5,3 +5,4 @@ pub mod Values
 pub mod Halves
 pub mod Filled
 pub mod Tabled
+pub mod Room

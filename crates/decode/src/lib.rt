@@ -4,3 +4,4 @@ pub mod pattern; // pattern.rt: the value that a pattern of bits stands for
 pub mod short; // short.rt: numbers of two bytes
 pub mod chunk; // chunk.rt: values that stand one after the other
 pub mod strided; // strided.rt: the same of every record
+pub mod room; // room.rt: room for records

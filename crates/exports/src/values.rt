@@ -1,7 +1,5 @@
 // The decoders, for a caller that nothing checks: 0, or 22 (output too short or too long for the bytes) and nothing is written.
 ghost use mathlib.Core.Path.{_≡_};
-ghost use Prim.Native.Nat.{_*_};
-ghost use lib.Dec.{leb};
 ghost use lib.ListN.{length};
 ghost use Rattle.decode.specs.Values.{byte, short, int, float, double, number};
 ghost use Rattle.exports.specs.Decoded.{fitting, decoded, recordsFit, fittingRecords, decodedRecords};
@@ -13,17 +11,8 @@ use decode::chunk::decode_i32;
 use decode::chunk::decode_u8;
 use decode::chunk::decode_u32;
 use decode::chunk::decode_u64;
+use decode::room::product_within;
 use decode::strided::records_f32;
-
-// Whether a × b is at most n.
-fn product_within(a: usize, b: usize, n: usize) -> bool
-    ensures { λ r. ⌜ r ≡ leb (a * b) n ⌝ }
-{
-    if b == 0 {
-        return true;
-    }
-    a <= n / b
-}
 
 // Whether `count` chunks have room in `out` elements, and stand within `src` bytes if one starts `stride` bytes after the other.
 fn floats_within(src: usize, out: usize, count: usize, chunk: usize, stride: usize) -> bool

@@ -1,2 +1,5 @@
 -- The laws of the definitions in specs/, under the same file names.
 pub mod Lookup
+pub mod Variable
+pub mod Values
+pub mod Stretch

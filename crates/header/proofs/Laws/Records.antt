@@ -118,7 +118,7 @@ unfolding product
 product-pos g zero h = omega arith
 product-pos g (suc n) h = mul-pos (product-pos g n (λ k l. h k (omega arith))) (h n (omega arith))
 
-size-pos : (t : DataType) → 0 < sizeOf t
+pub size-pos : (t : DataType) → 0 < sizeOf t
 size-pos I8 = lit≤ tt
 size-pos U8 = lit≤ tt
 size-pos I16 = lit≤ tt

@@ -1,8 +1,8 @@
 use native.Mathlib.Omega.{arith}
-use Rattle.exports.proofs.Laws.Room.{product-zero, product-div}
+use Rattle.decode.proofs.Laws.Room.{product-zero, product-div}
 use borrow.Author.Needs.{needs}
-use Rattle.exports.proofs.values.product_within.Statement.{statement}
-use Rattle.exports.proofs.values.product_within.Tie as tie
+use Rattle.decode.proofs.room.product_within.Statement.{statement}
+use Rattle.decode.proofs.room.product_within.Tie as tie
 
 returns : tie.Need-returns
 returns c = product-zero _ _ _ (c .if1 .taken)

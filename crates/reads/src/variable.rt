@@ -1,0 +1,155 @@
+// The variable that a read asks for, in tables that are tested first.
+ghost use mathlib.Core.Path.{_≡_};
+ghost use mathlib.Core.Bool.{true, cond};
+ghost use Prim.Native.Nat.{ℕ, _≤_, _<_};
+ghost use Rattle.grammar.specs.Tables.{idAt};
+ghost use Rattle.header.specs.Records.{chunk, recordSize, maxChunk};
+ghost use Rattle.reads.specs.Variable.{ofSought, rowHolds, shapeHolds, tablesHold, variable, sought, soughtAs};
+use grammar::tables::MAX_DIMS;
+use grammar::tables::MAX_RANK;
+use grammar::tables::MAX_VARS;
+use grammar::tables::Tables;
+use grammar::tables::Var;
+use header::model::ids_hold;
+use header::records::Sizes;
+use header::records::chunk_len;
+use header::records::ends_hold;
+use header::records::is_record;
+use header::records::measure;
+use items::types::DataType;
+
+// The numbers that a read needs of a variable.
+pub struct Variable {
+    pub begin: u64,
+    pub records: u64,
+    pub step: u64,
+    pub chunk: u64,
+    pub width: u64,
+    pub code: u8,
+}
+
+pub enum Sought {
+    Got(Variable),
+    Refused(u8),
+}
+
+// Whether tables may be read, and their record size.
+pub struct Tested {
+    pub hold: bool,
+    pub step: u64,
+}
+
+fn row_holds(v: Var) -> bool
+    ensures { λ r. ⌜ r ≡ rowHolds v ⌝ }
+{
+    if MAX_RANK < v.rank {
+        return false;
+    }
+    if v.code < 1 {
+        return false;
+    }
+    v.code <= 6
+}
+
+fn shape_holds(t: Tables) -> bool
+    ensures { λ r. ⌜ r ≡ shapeHolds t ⌝ }
+{
+    if MAX_DIMS < t.ndims {
+        return false;
+    }
+    if MAX_VARS < t.nvars {
+        return false;
+    }
+    let vars = t.vars;
+    let mut i = 0;
+    while i < t.nvars {
+        if !row_holds(vars[i]) {
+            return false;
+        }
+        i += 1;
+    }
+    true
+}
+
+// Rule 23.
+fn tables_hold(t: Tables) -> Tested
+    ensures { λ r. ⌜ (r .hold ≡ tablesHold t) × (r .hold ≡ true → r .step ≡ recordSize t) ⌝ }
+{
+    let broken = Tested {
+        hold: false,
+        step: 0,
+    };
+    if !shape_holds(t) {
+        return broken;
+    }
+    if !ids_hold(t) {
+        return broken;
+    }
+    let z = measure(t);
+    if !z.hold {
+        return broken;
+    }
+    let step = z.step;
+    let n = t.count;
+    Tested {
+        hold: ends_hold(t, step, n),
+        step,
+    }
+}
+
+// How many records a variable has: a fixed one has one.
+fn records_of(records: bool, count: u64) -> u64
+    ensures { λ r. ⌜ r ≡ cond records count 1 ⌝ }
+{
+    if records { count } else { 1 }
+}
+
+// The numbers of a row of tables that hold.
+fn described(t: Tables, v: Var, step: u64) -> Variable
+    requires { ⌜ (v .rank ≤ 8) × ((k : ℕ) → k < v .rank → idAt v k < 32) × (1 ≤ v .code) × (v .code ≤ 6) × (chunk (t .dims) v ≤ maxChunk) × (step ≡ recordSize t) ⌝ }
+    ensures { λ r. ⌜ r ≡ variable t v ⌝ }
+{
+    let dims = t.dims;
+    let count = t.count;
+    let kind = DataType::of_code(v.code as u64);
+    Variable {
+        begin: v.begin,
+        records: records_of(is_record(dims, v), count),
+        step,
+        chunk: chunk_len(dims, v),
+        width: kind.size_of(),
+        code: v.code,
+    }
+}
+
+// The variable `i`.
+pub fn seek(t: Tables, i: usize) -> Sought
+    ensures { λ r. ⌜ ofSought r ≡ sought t i ⌝ }
+{
+    let tested = tables_hold(t);
+    if !tested.hold {
+        return Sought::Refused(23);
+    }
+    if t.nvars <= i {
+        return Sought::Refused(16);
+    }
+    let vars = t.vars;
+    let v = vars[i];
+    let step = tested.step;
+    Sought::Got(described(t, v, step))
+}
+
+// The variable `i`, which must have the type `code`.
+pub fn seek_as(code: u8, t: Tables, i: usize) -> Sought
+    ensures { λ r. ⌜ ofSought r ≡ soughtAs code t i ⌝ }
+{
+    match seek(t, i) {
+        Sought::Refused(k) => Sought::Refused(k),
+        Sought::Got(v) => {
+            if v.code != code {
+                return Sought::Refused(17);
+            }
+            Sought::Got(v)
+        }
+    }
+}
