@@ -2,4 +2,5 @@
 pub mod Lookup
 pub mod Variable
 pub mod Values
+pub mod Element
 pub mod Stretch

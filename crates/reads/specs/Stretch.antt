@@ -1,9 +1,11 @@
 -- The records that a read decodes, as places in the window. Words of inner contracts alone; no entry cites them.
 use Prim.Native.Nat.{ℕ, _+_, _-_, _*_, _≤_, _<_, _^_}
+use mathlib.Core.Path.{_≡_}
 use mathlib.Core.List.{List, _++_}
 use lib.ListN.{drop}
 use lib.Dec.{ltb, leb, eqb}
 use Rattle.cdf.specs.Step.{Step, got, stop, bind, test}
+use Rattle.items.specs.Types.{typeOf, sizeOf}
 use Rattle.decode.specs.Lists.{table}
 use Rattle.decode.specs.Values.{rows}
 use Rattle.grammar.specs.declared.tables.Tables.{Tables}
@@ -26,11 +28,12 @@ abbrev pub ofStretched : Stretched → Step Stretch
 ofStretched (Got x) = got x 0
 ofStretched (Denied k) = stop k 0
 
--- a variable whose chunks end at or below 2^62, as those of tables that hold do: no position wraps
+-- a variable of tables that hold: its chunks end at or below 2^62, so that no position wraps, and its width is that of its type
 pub record Bounded (v : Variable) : Type 0 where
   pub ends : (r : ℕ) → r < v .records → v .begin + r * v .step + v .chunk * v .width ≤ 2 ^ 62
-  pub wide : 1 ≤ v .width
-  pub narrow : v .width ≤ 8
+  pub size : v .width ≡ sizeOf (typeOf (v .code))
+  pub low : 1 ≤ v .code
+  pub high : v .code ≤ 6
 
 -- the chunk of one record: 18, 20, 22
 unfoldable pub recordStretch : Variable → ℕ → ℕ → ℕ → ℕ → Step Stretch

@@ -10,8 +10,6 @@ use Rattle.items.specs.Types.{typeOf, sizeOf}
 use Rattle.grammar.specs.Tables.{varAt}
 use Rattle.grammar.specs.declared.tables.Tables.{Tables}
 use Rattle.header.specs.Records.{isRecord, chunk, chunkBytes, paddedBytes, maxPosition, lastEnd, endOf, endsHold}
-use Rattle.header.proofs.Laws.Records.{size-pos}
-use Rattle.grammar.proofs.Laws.Lists.{size-high}
 use Rattle.cdf.proofs.Laws.Below.{holds-at}
 use Rattle.reads.specs.Variable.{variable, sought, soughtAs}
 use Rattle.reads.proofs.Laws.Variable.{Holds, tables-parts}
@@ -39,8 +37,9 @@ module _ (t : Tables) (h : Holds t) (i : ℕ) (inside : i < t .nvars) where
   bounded-row =
       record {
         ends = λ r l. ends-bound (isRecord (t .dims) (varAt t i)) _ (paddedBytes (t .dims) (varAt t i)) _ (t .count) _ r bytes-less end-less l;
-        wide = size-pos (typeOf (varAt t i .code));
-        narrow = size-high (typeOf (varAt t i .code));
+        size = refl;
+        low = h .shape .rows i inside .low;
+        high = h .shape .rows i inside .high;
       }
     where
       bytes-less : chunk (t .dims) (varAt t i) * sizeOf (typeOf (varAt t i .code)) ≤ paddedBytes (t .dims) (varAt t i)
