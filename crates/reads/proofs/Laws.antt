@@ -4,3 +4,4 @@ pub mod Variable
 pub mod Values
 pub mod Element
 pub mod Stretch
+pub mod Filled

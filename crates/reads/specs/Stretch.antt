@@ -2,7 +2,7 @@
 use Prim.Native.Nat.{ℕ, _+_, _-_, _*_, _≤_, _<_, _^_}
 use mathlib.Core.Path.{_≡_}
 use mathlib.Core.List.{List, _++_}
-use lib.ListN.{drop}
+use lib.ListN.{length, take, drop}
 use lib.Dec.{ltb, leb, eqb}
 use Rattle.cdf.specs.Step.{Step, got, stop, bind, test}
 use Rattle.items.specs.Types.{typeOf, sizeOf}
@@ -61,7 +61,8 @@ recordOf code t have start i r room = bind (soughtAs code t i) (λ v _. recordSt
 unfoldable pub wholeOf : ℕ → Tables → ℕ → ℕ → ℕ → ℕ → Step Stretch
 wholeOf code t have start i room = bind (soughtAs code t i) (λ v _. wholeStretch v have start room)
 
--- the output that a stretch is decoded into
+-- the output that a stretch is decoded into, from the part `&s[at..]` of the window
 unfoldable pub filled : {A : Type 0} → (ℕ → A) → ℕ → List ℕ → List A → Step Stretch → Step (List A)
 filled F w s out m =
-    bind m (λ x _. got (table (rows F w (drop (x .at) s) (x .stride)) (x .chunk) (x .count) ++ drop (x .count * x .chunk) out) 0)
+    bind m (λ x _.
+    got (table (rows F w (take (length s - x .at) (drop (x .at) s)) (x .stride)) (x .chunk) (x .count) ++ drop (x .count * x .chunk) out) 0)

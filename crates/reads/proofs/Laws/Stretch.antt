@@ -55,7 +55,7 @@ found t i e =
     let q = test-came 16 0 (p .1) in
     subst (λ (u : Variable). Bounded u) (sym (got-same (q .1))) (bounded-row t (tables-parts t (p .0)) i (ltb-true _ _ (q .0)))
 
-pub bounded : (code : ℕ) (t : Tables) (i : ℕ) {v : Variable} → got v 0 ≡ soughtAs code t i → Bounded v
+pub bounded : (code : ℕ) (t : Tables) (i : ℕ) {v : Variable} {n : ℕ} → got v n ≡ soughtAs code t i → Bounded v
 unfolding soughtAs
 bounded code t i {v} e =
     bind-came (sought t i) _ e (Bounded v)
