@@ -28,7 +28,7 @@ pub enum AttrStep {
 }
 
 // An attribute after its name: type, element count, values, padding.
-fn parse_attr_values(s: &[u8], size: u64, at: usize, name: usize, chars: usize) -> AttrStep
+fn parse_attr_values(s: &[u8], size: u64, at: usize, name: usize, chars: u16) -> AttrStep
     requires { ⌜ at ≤ length (now s) ⌝ }
     ensures { λ r. ⌜ ofAttr r ≡ attrValues 6 4 name chars (now (s .entry)) size at ⌝ }
 {
@@ -43,8 +43,8 @@ fn parse_attr_values(s: &[u8], size: u64, at: usize, name: usize, chars: usize) 
                         Attr {
                             name,
                             chars,
-                            code: kind.code(),
-                            count,
+                            code: kind.code() as u16,
+                            count: count as u32,
                             values,
                         },
                         end,
@@ -61,7 +61,7 @@ pub fn parse_attr(s: &[u8], size: u64, at: usize, version: u8) -> AttrStep
 {
     match parse_name_string(s, size, at) {
         Word::Stop(k, p) => AttrStep::Stop(k, p),
-        Word::Got(chars, next) => parse_attr_values(s, size, next, at + 4, chars as usize),
+        Word::Got(chars, next) => parse_attr_values(s, size, next, at + 4, chars as u16),
     }
 }
 

@@ -32,8 +32,8 @@ fn parse_dim(s: &[u8], size: u64, at: usize, version: u8) -> DimStep
             Word::Got(length, end) => DimStep::Got(
                 Dim {
                     name: at + 4,
-                    chars: chars as usize,
-                    length,
+                    chars: chars as u32,
+                    length: length as u32,
                 },
                 end,
             ),

@@ -14,19 +14,22 @@ pub const MAX_RANK: usize = 8;
 // The largest file size, begin and end.
 pub const MAX_POSITION: u64 = 0x4000_0000_0000_0000;
 
+// The fields of a row are narrow and leave no bytes between them: tables go by value, so their bytes
+// are most of what a header costs, and rows with gaps are filled and copied field by field.
+
 // A dimension; length 0 marks the unlimited one.
 pub struct Dim {
     pub name: usize,
-    pub chars: usize,
-    pub length: u64,
+    pub chars: u32,
+    pub length: u32,
 }
 
 // An attribute; its values stand at `values`.
 pub struct Attr {
     pub name: usize,
-    pub chars: usize,
-    pub code: u8,
-    pub count: u64,
+    pub chars: u16,
+    pub code: u16,
+    pub count: u32,
     pub values: usize,
 }
 
@@ -34,11 +37,11 @@ pub struct Attr {
 // from `first` on; `begin` has the 64 bits of the signed number.
 pub struct Var {
     pub name: usize,
-    pub chars: usize,
-    pub rank: usize,
+    pub chars: u32,
     pub ids: [u32; 8],
-    pub first: usize,
-    pub attrs: usize,
+    pub rank: u8,
+    pub first: u8,
+    pub attrs: u8,
     pub code: u8,
     pub vsize: u64,
     pub begin: u64,
@@ -85,8 +88,8 @@ pub fn started(version: u8, word: u64, size: u64) -> Tables
     let var = Var {
         name: 0,
         chars: 0,
-        rank: 0,
         ids: [0; 8],
+        rank: 0,
         first: 0,
         attrs: 0,
         code: 0,

@@ -72,7 +72,7 @@ fn parse_dim_ids(s: &[u8], size: u64, at: usize, version: u8, n: usize, row: Var
             }
             Word::Got(id, end) => {
                 let m = v.rank;
-                v.ids[m] = id as u32;
+                v.ids[m as usize] = id as u32;
                 v.rank = m + 1;
                 at = end;
             }
@@ -86,14 +86,14 @@ fn parse_dim_ids(s: &[u8], size: u64, at: usize, version: u8, n: usize, row: Var
 }
 
 // A row with its name alone.
-fn named(name: usize, chars: usize) -> Var
+fn named(name: usize, chars: u32) -> Var
     ensures { λ r. ⌜ r ≡ named name chars ⌝ }
 {
     Var {
         name,
         chars,
-        rank: 0,
         ids: [0; 8],
+        rank: 0,
         first: 0,
         attrs: 0,
         code: 0,
@@ -124,7 +124,7 @@ fn parse_var_head(s: &[u8], size: u64, at: usize, version: u8) -> Rowed
                     ids,
                     version,
                     rank as usize,
-                    named(at + 4, chars as usize),
+                    named(at + 4, chars as u32),
                 )
             }
         },
@@ -156,7 +156,7 @@ fn parse_var_tail(s: &[u8], size: u64, at: usize, version: u8) -> TailStep
 }
 
 // The whole row of a variable whose `attrs` attributes start at the row `first`.
-fn joined(row: Var, first: usize, attrs: usize, tail: Tail) -> Var
+fn joined(row: Var, first: u8, attrs: u8, tail: Tail) -> Var
     ensures { λ r. ⌜ r ≡ joined row first attrs tail ⌝ }
 {
     let mut v = row;
@@ -244,7 +244,7 @@ fn parse_vars(s: &[u8], size: u64, at: usize, version: u8, n: usize, tables: Tab
             TailStep::Got(tail, end) => {
                 let m = t.nvars;
                 let row = start.row;
-                t.vars[m] = joined(row, first, count, tail);
+                t.vars[m] = joined(row, first as u8, count as u8, tail);
                 t.nvars = m + 1;
                 at = end;
             }

@@ -29,8 +29,8 @@ fn names_hold(s: &[u8], t: Tables) -> bool
     let mut i = 0;
     while i < t.nvars {
         let v = vars[i];
-        let first = v.first;
-        let n = v.attrs;
+        let first = v.first as usize;
+        let n = v.attrs as usize;
         if !attr_names_hold(s, t, first, n) {
             return false;
         }
@@ -92,8 +92,9 @@ pub fn ids_hold(t: Tables) -> bool
     let mut i = 0;
     while i < t.nvars {
         let v = vars[i];
+        let rank = v.rank as usize;
         let mut k = 0;
-        while k < v.rank {
+        while k < rank {
             let id = index(v.ids[k]);
             if t.ndims <= id {
                 return false;

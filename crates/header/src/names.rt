@@ -28,14 +28,15 @@ fn byte_at(s: &[u8], at: usize, i: usize) -> u8
 }
 
 // Whether two names have the same bytes.
-pub fn same_name(s: &[u8], a: usize, achars: usize, b: usize, bchars: usize) -> bool
+pub fn same_name(s: &[u8], a: usize, achars: u32, b: usize, bchars: u32) -> bool
     ensures { λ r. ⌜ r ≡ sameName (now (s .entry)) (record { at = a; chars = achars }) (record { at = b; chars = bchars }) ⌝ }
 {
     if achars != bchars {
         return false;
     }
+    let chars = achars as usize;
     let mut i = 0;
-    while i < achars {
+    while i < chars {
         if byte_at(s, a, i) != byte_at(s, b, i) {
             return false;
         }
@@ -109,7 +110,7 @@ pub fn attr_names_hold(s: &[u8], t: Tables, first: usize, n: usize) -> bool
         let mut j = 0;
         while j < i {
             let b = rows[first + j];
-            if same_name(s, b.name, b.chars, a.name, a.chars) {
+            if same_name(s, b.name, b.chars as u32, a.name, a.chars as u32) {
                 return false;
             }
             j += 1;

@@ -65,12 +65,13 @@ pub fn chunk_len(dims: [Dim; 32], v: Var) -> u64
     requires { ⌜ (v .rank ≤ 8) × ((k : ℕ) → k < v .rank → idAt v k < 32) ⌝ }
     ensures { λ r. ⌜ r ≡ capped (chunk dims v) ⌝ }
 {
+    let rank = v.rank as usize;
     let mut k = outer(dims, v);
     let mut product = 1;
-    while k < v.rank {
+    while k < rank {
         let id = v.ids[k] as usize;
         let d = dims[id];
-        product = times(product, d.length);
+        product = times(product, d.length as u64);
         k += 1;
     }
     product

@@ -26,7 +26,7 @@ fn names_inside(s: &[u8], t: Tables) -> bool
         if n < v.name {
             return false;
         }
-        if n - v.name < v.chars {
+        if n - v.name < v.chars as usize {
             return false;
         }
         i += 1;
@@ -63,7 +63,7 @@ pub fn find_var(s: &[u8], t: Tables, name: &[u8]) -> Found
     while i < t.nvars {
         let v = t.vars[i];
         let at = v.name;
-        let chars = v.chars;
+        let chars = v.chars as usize;
         if is_named(s, at, chars, name) {
             return Found::At(i);
         }
@@ -94,6 +94,6 @@ pub fn var_name(s: &[u8], t: Tables, i: usize) -> &[u8]
     }
     let v = t.vars[i];
     let at = v.name;
-    let end = at + v.chars;
+    let end = at + v.chars as usize;
     &s[at..end]
 }

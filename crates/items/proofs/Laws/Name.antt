@@ -12,8 +12,8 @@ use Rattle.cdf.specs.Word.{count}
 use Rattle.cdf.specs.Padding.{zeroPadding}
 use Rattle.items.specs.Utf8.{utf8}
 use Rattle.items.specs.Name.{longestName, part, nameBytes, name}
-use Rattle.cdf.proofs.Laws.Step.{Ends, ended, stopped, bind-ends, test-ends, unfinished-ends, by-got, by-stop, by-true, by-false, is-unfinished}
-use Rattle.cdf.proofs.Laws.Word.{count-ends}
+use Rattle.cdf.proofs.Laws.Step.{Ends, ended, stopped, bind-ends, test-ends, unfinished-ends, by-got, by-stop, by-true, by-false, is-unfinished, bind-came, got-same}
+use Rattle.cdf.proofs.Laws.Word.{count-ends, count-within}
 use Rattle.cdf.proofs.Laws.Padding.{padding-ends}
 
 module _ (n : ℕ) (s : List ℕ) (size at : ℕ) where
@@ -51,6 +51,15 @@ module _ (k : ℕ) (s : List ℕ) (size at : ℕ) where
       pub name-got : {q : ℕ} → got tt q ≡ zeroPadding n s size e → got n q ≡ name k s size at
       unfolding name
       name-got f = by-got _ _ counted (by-got _ _ read (by-got _ _ f refl))
+
+  -- a name that is taken has no more bytes than its capacity
+  pub name-within : {n e : ℕ} → got n e ≡ name k s size at → n ≤ longestName
+  unfolding name
+  name-within {n} f =
+      bind-came _ _ f (n ≤ longestName) (λ a p counted g.
+      bind-came _ _ g (n ≤ longestName) (λ _ q _ h.
+      bind-came _ _ h (n ≤ longestName) (λ _ r _ i.
+      let same = got-same i in omega (arith, count-within k s size at longestName counted))))
 
   pub name-ends : Ends (length s) (name k s size at)
   unfolding name

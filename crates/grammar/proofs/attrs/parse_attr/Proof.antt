@@ -1,7 +1,8 @@
 use Rattle.grammar.specs.Attrs.{attr}
-use Rattle.items.proofs.Laws.Name.{name-ends}
+use Rattle.items.proofs.Laws.Name.{name-ends, name-within}
 use Rattle.cdf.proofs.Laws.Step.{got-ends, by-got, by-stop}
 use Rattle.cdf.specs.Word.{ofWord}
+use native.Mathlib.Omega.{arith}
 use mathlib.Core.Path.{sym, ap, _∙_}
 use borrow.Author.Needs.{needs}
 use Rattle.grammar.proofs.attrs.parse_attr.Statement.{statement}
@@ -18,6 +19,9 @@ enum-known-chars c = search needs
 
 add-parse-attr-values : tie.Need-add-parse-attr-values
 add-parse-attr-values c = search needs
+
+cast-parse-attr-values : tie.Need-cast-parse-attr-values
+cast-parse-attr-values c = omega (arith, name-within 4 _ _ _ (ap ofWord (sym (c .before .chars .given .1)) ∙ c .before .before .before .parse-name-string .ensures))
 
 parse-attr-values-requires : tie.Need-parse-attr-values-requires
 parse-attr-values-requires c κs = got-ends (ap ofWord (sym (c .before .chars .given .1)) ∙ c .before .before .before .parse-name-string .ensures) (name-ends _ _ _ _)
@@ -38,6 +42,7 @@ parse-attr-spec =
     enum-known-k
     enum-known-chars
     add-parse-attr-values
+    cast-parse-attr-values
     parse-attr-values-requires
     returns
     returns-2)

@@ -7,6 +7,7 @@ use Rattle.cdf.proofs.Laws.Step.{got-ends, by-got, by-stop}
 use Rattle.items.specs.Types.{ofTyped}
 use Rattle.cdf.specs.Magic.{ofNext}
 use Rattle.cdf.specs.Word.{ofWord}
+use native.Mathlib.Omega.{arith}
 use Prim.Native.Nat.{ℕ, _≤_}
 use mathlib.Core.Path.{refl, sym, ap, subst, _∙_}
 use borrow.Author.Needs.{needs}
@@ -46,6 +47,12 @@ enum-known-end c = search needs
 code-requires : tie.Need-code-requires
 code-requires c κs = search needs
 
+cast-t25 : tie.Need-cast-t25
+cast-t25 c = search needs
+
+cast-t26 : tie.Need-cast-t26
+cast-t26 c = omega (arith, nonNegative-below 4 _ _ _ (ap ofWord (sym (c .before .before .before .before .before .before .before .count .given .1)) ∙ c .before .before .before .before .before .before .before .before .before .parse-non-neg .ensures))
+
 returns : tie.Need-returns
 unfolding attrValues
 returns c = by-stop _ (ap ofTyped (sym (c .before .k .given .1)) ∙ c .before .before .before .parse-data-type .ensures)
@@ -77,6 +84,8 @@ parse-attr-values-spec =
     enum-known-k-3
     enum-known-end
     code-requires
+    cast-t25
+    cast-t26
     returns
     returns-2
     returns-3

@@ -1,7 +1,9 @@
 use Rattle.grammar.specs.Dims.{dim}
-use Rattle.items.proofs.Laws.Name.{name-ends}
+use Rattle.items.proofs.Laws.Name.{name-ends, name-within}
 use Rattle.cdf.proofs.Laws.Step.{got-ends, by-got, by-stop}
 use Rattle.cdf.specs.Word.{ofWord}
+use Rattle.cdf.proofs.Laws.Word.{nonNegative-below}
+use native.Mathlib.Omega.{arith}
 use mathlib.Core.Path.{refl, sym, ap, _∙_}
 use borrow.Author.Needs.{needs}
 use Rattle.grammar.proofs.dims.parse_dim.Statement.{statement}
@@ -28,6 +30,12 @@ enum-known-length c = search needs
 add-t17 : tie.Need-add-t17
 add-t17 c = search needs
 
+cast-t18 : tie.Need-cast-t18
+cast-t18 c = omega (arith, name-within 4 _ _ _ (ap ofWord (sym (c .before .before .before .before .before .chars .given .1)) ∙ c .before .before .before .before .before .before .before .parse-name-string .ensures))
+
+cast-t19 : tie.Need-cast-t19
+cast-t19 c = omega (arith, nonNegative-below 4 _ _ _ (ap ofWord (sym (c .before .length .given .1)) ∙ c .before .before .before .parse-non-neg .ensures))
+
 returns : tie.Need-returns
 unfolding dim
 returns c = by-stop _ (ap ofWord (sym (c .before .k .given .1)) ∙ c .before .before .before .parse-name-string .ensures)
@@ -51,6 +59,8 @@ parse-dim-spec =
     enum-known-k-2
     enum-known-length
     add-t17
+    cast-t18
+    cast-t19
     returns
     returns-2
     returns-3)

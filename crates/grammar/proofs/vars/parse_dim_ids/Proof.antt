@@ -42,6 +42,9 @@ enum-known-id c = search needs
 cast-v : tie.Need-cast-v Inv-loop μ-loop
 cast-v c = omega (arith, nonNegative-below 4 _ _ _ (ap ofWord (sym (c .before .id .given .1)) ∙ c .before .before .before .parse-non-neg .ensures))
 
+cast-v-2 : tie.Need-cast-v-2 Inv-loop μ-loop
+cast-v-2 c = search needs
+
 mul-v : tie.Need-mul-v Inv-loop μ-loop
 mul-v c = search needs
 
@@ -83,6 +86,7 @@ parse-dim-ids-spec =
     returns
     enum-known-id
     cast-v
+    cast-v-2
     mul-v
     element-write-v
     add-v

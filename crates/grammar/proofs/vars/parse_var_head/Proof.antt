@@ -1,6 +1,6 @@
 use Rattle.grammar.specs.declared.tables.Var.{Var}
 use Rattle.grammar.specs.Vars.{varHead}
-use Rattle.items.proofs.Laws.Name.{name-ends}
+use Rattle.items.proofs.Laws.Name.{name-ends, name-within}
 use Rattle.cdf.proofs.Laws.Word.{count-ends, count-within}
 use Rattle.cdf.proofs.Laws.Step.{got-ends, by-got, by-stop}
 use Rattle.cdf.specs.Word.{ofWord}
@@ -37,6 +37,9 @@ enum-known-rank c = search needs
 add-named : tie.Need-add-named
 add-named c = search needs
 
+cast-named : tie.Need-cast-named
+cast-named c = omega (arith, name-within 4 _ _ _ (ap ofWord (sym (c .before .before .before .before .before .chars .given .1)) ∙ c .before .before .before .before .before .before .before .parse-name-string .ensures))
+
 named-requires-3 : tie.Need-named-requires-3
 named-requires-3 c κs = search needs
 
@@ -68,6 +71,7 @@ parse-var-head-spec =
     named-requires-2
     enum-known-rank
     add-named
+    cast-named
     named-requires-3
     parse-dim-ids-requires
     returns

@@ -146,11 +146,17 @@ returns-3 c =
 enum-known-tail : tie.Need-enum-known-tail Inv-loop2 μ-loop2 Inv-loop μ-loop
 enum-known-tail c = search needs
 
+cast-joined : tie.Need-cast-joined Inv-loop2 μ-loop2 Inv-loop μ-loop
+cast-joined c = omega (arith, c .before .before .before .before .before .before .before .before .before .before .before .before .loop .inv .4 .attrs)
+
+cast-joined-2 : tie.Need-cast-joined-2 Inv-loop2 μ-loop2 Inv-loop μ-loop
+cast-joined-2 c = omega (arith, c .before .before .before .before .before .before .before .before .before .before .parse-var-start .ensures .2)
+
 joined-requires : tie.Need-joined-requires Inv-loop2 μ-loop2 Inv-loop μ-loop
 joined-requires c κs = search needs
 
-mul-t40 : tie.Need-mul-t40 Inv-loop2 μ-loop2 Inv-loop μ-loop
-mul-t40 c = search needs
+mul-t42 : tie.Need-mul-t42 Inv-loop2 μ-loop2 Inv-loop μ-loop
+mul-t42 c = search needs
 
 element-set-from-t : tie.Need-element-set-from-t Inv-loop2 μ-loop2 Inv-loop μ-loop
 element-set-from-t c = search needs
@@ -217,8 +223,10 @@ parse-vars-spec =
     stopped-requires-3
     returns-3
     enum-known-tail
+    cast-joined
+    cast-joined-2
     joined-requires
-    mul-t40
+    mul-t42
     element-set-from-t
     add-t-2
     add-i

@@ -13,10 +13,10 @@ use Rattle.header.proofs.model.ids_hold.Statement.{statement}
 use Rattle.header.proofs.model.ids_hold.Tie as tie
 
 abbrev Inv-loop2 : tie.InvT-loop2
-Inv-loop2 t dims vars i v k₀ k = (k ≤ v .rank) × (v .rank ≤ 8) × ((j : ℕ) → j < k → idHolds t v j ≡ true)
+Inv-loop2 t dims vars i v rank k₀ k = (k ≤ v .rank) × (v .rank ≤ 8) × ((j : ℕ) → j < k → idHolds t v j ≡ true)
 
 abbrev μ-loop2 : tie.MeasureT-loop2
-μ-loop2 t dims vars i v k₀ k = v .rank - k
+μ-loop2 t dims vars i v rank k₀ k = v .rank - k
 
 abbrev Inv-loop : tie.InvT-loop
 Inv-loop t dims vars i₀ i = (i ≤ t .nvars) × ((j : ℕ) → j < i → allBelow (varAt t j .rank) (idHolds t (varAt t j)) ≡ true)
@@ -32,6 +32,9 @@ mul-v c = search needs
 
 array-copy-out-v : tie.Need-array-copy-out-v Inv-loop2 μ-loop2 Inv-loop μ-loop
 array-copy-out-v c = search needs
+
+cast-rank : tie.Need-cast-rank Inv-loop2 μ-loop2 Inv-loop μ-loop
+cast-rank c = omega (arith, c .before .before .before .before .before .before .pre .rows _ (c .before .if1 .taken) .rank)
 
 loop2-holds : tie.Need-loop2-holds Inv-loop2 μ-loop2 Inv-loop μ-loop
 loop2-holds c = (omega arith, c .before .before .before .before .before .before .pre .rows _ (c .before .if1 .taken) .rank, below-none _)
@@ -101,6 +104,7 @@ ids-hold-spec =
     loop-holds
     mul-v
     array-copy-out-v
+    cast-rank
     loop2-holds
     mul-index
     element-copy-out-index

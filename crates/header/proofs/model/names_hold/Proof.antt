@@ -44,11 +44,17 @@ mul-v c = search needs
 array-copy-out-v : tie.Need-array-copy-out-v Inv-loop μ-loop
 array-copy-out-v c = search needs
 
+cast-first : tie.Need-cast-first Inv-loop μ-loop
+cast-first c = search needs
+
+cast-n : tie.Need-cast-n Inv-loop μ-loop
+cast-n c = search needs
+
 attr-names-hold-requires-2 : tie.Need-attr-names-hold-requires-2 Inv-loop μ-loop
-attr-names-hold-requires-2 c κs = c .before .before .before .before .before .before .before .before .before .before .before .before .pre .rows _ (c .before .if4 .taken) .span
+attr-names-hold-requires-2 c κs = c .before .before .before .before .before .before .before .before .before .before .before .before .before .before .pre .rows _ (c .before .before .before .if4 .taken) .span
 
 returns-4 : tie.Need-returns-4 Inv-loop μ-loop
-returns-4 c = let l = c .before .before .before .before .before .loop in names-own _ _ (l .inv .1) (l .inv .2) (l .inv .3) _ (c .before .before .before .if4 .taken) (sym (c .before .attr-names-hold2 .ensures) ∙ not-true _ (c .if5 .taken))
+returns-4 c = let l = c .before .before .before .before .before .before .before .loop in names-own _ _ (l .inv .1) (l .inv .2) (l .inv .3) _ (c .before .before .before .before .before .if4 .taken) (sym (c .before .attr-names-hold2 .ensures) ∙ not-true _ (c .if5 .taken))
 
 add-i : tie.Need-add-i Inv-loop μ-loop
 add-i c = search needs
@@ -57,7 +63,7 @@ loop-less : tie.Need-loop-less Inv-loop μ-loop
 loop-less c = search needs
 
 loop-again : tie.Need-loop-again Inv-loop μ-loop
-loop-again c = let l = c .before .before .before .before .before .loop in (omega arith, l .inv .1, l .inv .2, l .inv .3, below-more _ _ (l .inv .4) (sym (c .before .attr-names-hold2 .ensures) ∙ not-false _ (c .if5 .left)))
+loop-again c = let l = c .before .before .before .before .before .before .before .loop in (omega arith, l .inv .1, l .inv .2, l .inv .3, below-more _ _ (l .inv .4) (sym (c .before .attr-names-hold2 .ensures) ∙ not-false _ (c .if5 .left)))
 
 returns-5 : tie.Need-returns-5 Inv-loop μ-loop
 returns-5 c = let l = c .before .before .loop in names-all _ _ (l .inv .1) (l .inv .2) (l .inv .3) (λ k h. l .inv .4 k (omega arith))
@@ -77,6 +83,8 @@ names-hold-spec =
     loop-holds
     mul-v
     array-copy-out-v
+    cast-first
+    cast-n
     attr-names-hold-requires-2
     returns-4
     add-i

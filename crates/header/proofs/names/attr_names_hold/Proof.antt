@@ -56,11 +56,17 @@ mul-b c = search needs
 array-copy-out-b : tie.Need-array-copy-out-b Inv-loop2 μ-loop2 Inv-loop μ-loop
 array-copy-out-b c = search needs
 
+cast-same-name : tie.Need-cast-same-name Inv-loop2 μ-loop2 Inv-loop μ-loop
+cast-same-name c = search needs
+
+cast-same-name-2 : tie.Need-cast-same-name-2 Inv-loop2 μ-loop2 Inv-loop μ-loop
+cast-same-name-2 c = search needs
+
 same-name-requires : tie.Need-same-name-requires Inv-loop2 μ-loop2 Inv-loop μ-loop
 same-name-requires c κs = search needs
 
 returns-2 : tie.Need-returns-2 Inv-loop2 μ-loop2 Inv-loop μ-loop
-returns-2 c = distinct-twice _ _ _ _ _ (c .before .before .before .before .before .before .before .before .loop-test .taken) (c .before .before .before .loop2-test .taken) (sym (c .before .same-name .ensures) ∙ c .if2 .taken)
+returns-2 c = distinct-twice _ _ _ _ _ (c .before .before .before .before .before .before .before .before .before .before .loop-test .taken) (c .before .before .before .before .before .loop2-test .taken) (sym (c .before .same-name .ensures) ∙ c .if2 .taken)
 
 add-j : tie.Need-add-j Inv-loop2 μ-loop2 Inv-loop μ-loop
 add-j c = search needs
@@ -69,7 +75,7 @@ loop2-less : tie.Need-loop2-less Inv-loop2 μ-loop2 Inv-loop μ-loop
 loop2-less c = search needs
 
 loop2-again : tie.Need-loop2-again Inv-loop2 μ-loop2 Inv-loop μ-loop
-loop2-again c = (omega arith, below-more _ _ (c .before .before .before .before .loop2 .inv .1) (sym (c .before .same-name .ensures) ∙ c .if2 .left))
+loop2-again c = (omega arith, below-more _ _ (c .before .before .before .before .before .before .loop2 .inv .1) (sym (c .before .same-name .ensures) ∙ c .if2 .left))
 
 add-i : tie.Need-add-i Inv-loop2 μ-loop2 Inv-loop μ-loop
 add-i c = search needs
@@ -100,6 +106,8 @@ attr-names-hold-spec =
     add-b
     mul-b
     array-copy-out-b
+    cast-same-name
+    cast-same-name-2
     same-name-requires
     returns-2
     add-j

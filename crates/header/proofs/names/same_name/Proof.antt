@@ -9,10 +9,10 @@ use Rattle.header.proofs.names.same_name.Statement.{statement}
 use Rattle.header.proofs.names.same_name.Tie as tie
 
 abbrev Inv-loop : tie.InvT-loop
-Inv-loop s a achars b bchars i₀ i = (i ≤ achars) × (achars ≡ bchars) × ((k : ℕ) → k < i → getD s (a + k) 0 ≡ getD s (b + k) 0)
+Inv-loop s a achars b bchars chars i₀ i = (i ≤ achars) × (achars ≡ bchars) × ((k : ℕ) → k < i → getD s (a + k) 0 ≡ getD s (b + k) 0)
 
 abbrev μ-loop : tie.MeasureT-loop
-μ-loop s a achars b bchars i₀ i = achars - i
+μ-loop s a achars b bchars chars i₀ i = achars - i
 
 returns : tie.Need-returns Inv-loop μ-loop
 returns c = same-length _ _ _ (c .if1 .taken)

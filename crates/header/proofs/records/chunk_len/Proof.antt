@@ -8,10 +8,13 @@ use Rattle.header.proofs.records.chunk_len.Statement.{statement}
 use Rattle.header.proofs.records.chunk_len.Tie as tie
 
 abbrev Inv-loop : tie.InvT-loop
-Inv-loop dims v k₀ product₀ k product = (outer dims v ≤ k) × (k ≤ v .rank) × (product ≡ capped (firstLengths dims v (k - outer dims v)))
+Inv-loop dims v rank k₀ product₀ k product = (outer dims v ≤ k) × (k ≤ v .rank) × (product ≡ capped (firstLengths dims v (k - outer dims v)))
 
 abbrev μ-loop : tie.MeasureT-loop
-μ-loop dims v k₀ product₀ k product = v .rank - k
+μ-loop dims v rank k₀ product₀ k product = v .rank - k
+
+cast-rank : tie.Need-cast-rank Inv-loop μ-loop
+cast-rank c = search needs
 
 outer-requires : tie.Need-outer-requires Inv-loop μ-loop
 outer-requires c κs = search needs
@@ -39,6 +42,9 @@ mul-d c = omega (arith, c .before .before .before .before .pre .1 (c .before .be
 array-copy-out-d : tie.Need-array-copy-out-d Inv-loop μ-loop
 array-copy-out-d c = c .before .before .before .before .pre .1 (c .before .before .loop .k) (c .before .loop-test .taken)
 
+cast-times : tie.Need-cast-times Inv-loop μ-loop
+cast-times c = search needs
+
 times-requires : tie.Need-times-requires Inv-loop μ-loop
 times-requires c κs = search needs
 
@@ -49,7 +55,7 @@ loop-less : tie.Need-loop-less Inv-loop μ-loop
 loop-less c = search needs
 
 loop-again : tie.Need-loop-again Inv-loop μ-loop
-loop-again c = let l = c .before .before .before .before .loop in (omega arith, omega arith, lengths-more _ _ (l .k) (l .inv .0) (λ x e. c .times .ensures x (l .inv .2 ∙ e)))
+loop-again c = let l = c .before .before .before .before .before .loop in (omega arith, omega arith, lengths-more _ _ (l .k) (l .inv .0) (λ x e. c .times .ensures x (l .inv .2 ∙ e)))
 
 returns : tie.Need-returns Inv-loop μ-loop
 returns c = let l = c .before .loop in l .inv .2 ∙ lengths-all _ _ (omega arith)
@@ -60,6 +66,7 @@ chunk-len-spec =
     (tie.spec
     Inv-loop
     μ-loop
+    cast-rank
     outer-requires
     loop-holds
     mul-id
@@ -67,6 +74,7 @@ chunk-len-spec =
     cast-id
     mul-d
     array-copy-out-d
+    cast-times
     times-requires
     add-k
     loop-less

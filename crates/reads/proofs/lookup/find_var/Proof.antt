@@ -31,11 +31,14 @@ mul-v c = search needs
 element-copy-out-v : tie.Need-element-copy-out-v Inv-loop μ-loop
 element-copy-out-v c = search needs
 
+cast-chars : tie.Need-cast-chars Inv-loop μ-loop
+cast-chars c = search needs
+
 is-named-requires : tie.Need-is-named-requires Inv-loop μ-loop
-is-named-requires c κs = name-in _ _ (c .before .before .loop .inv .1) _ (c .before .loop-test .taken)
+is-named-requires c κs = name-in _ _ (c .before .before .before .loop .inv .1) _ (c .before .before .loop-test .taken)
 
 returns-2 : tie.Need-returns-2 Inv-loop μ-loop
-returns-2 c = let l = c .before .before .before .before .loop in found _ _ (l .inv .1) _ _ (c .before .before .before .loop-test .taken) (l .inv .2) (sym (c .before .is-named .ensures) ∙ c .if2 .taken)
+returns-2 c = let l = c .before .before .before .before .before .loop in found _ _ (l .inv .1) _ _ (c .before .before .before .before .loop-test .taken) (l .inv .2) (sym (c .before .is-named .ensures) ∙ c .if2 .taken)
 
 add-i : tie.Need-add-i Inv-loop μ-loop
 add-i c = search needs
@@ -44,7 +47,7 @@ loop-less : tie.Need-loop-less Inv-loop μ-loop
 loop-less c = search needs
 
 loop-again : tie.Need-loop-again Inv-loop μ-loop
-loop-again c = let l = c .before .before .before .before .loop in (omega arith, l .inv .1, below-more _ _ (l .inv .2) (sym (c .before .is-named .ensures) ∙ c .if2 .left), l .inv .3)
+loop-again c = let l = c .before .before .before .before .before .loop in (omega arith, l .inv .1, below-more _ _ (l .inv .2) (sym (c .before .is-named .ensures) ∙ c .if2 .left), l .inv .3)
 
 returns-3 : tie.Need-returns-3 Inv-loop μ-loop
 returns-3 c = let l = c .before .loop in not-found _ _ (l .inv .1) _ (λ k h. l .inv .2 k (omega arith))
@@ -60,6 +63,7 @@ find-var-spec =
     loop-holds
     mul-v
     element-copy-out-v
+    cast-chars
     is-named-requires
     returns-2
     add-i

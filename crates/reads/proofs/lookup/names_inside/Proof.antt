@@ -32,6 +32,9 @@ element-copy-out-v c = search needs
 returns-2 : tie.Need-returns-2 Inv-loop μ-loop
 returns-2 c = inside-not _ _ _ (c .before .before .before .loop-test .taken) (omega (arith, c .if2 .taken))
 
+cast-if3 : tie.Need-cast-if3 Inv-loop μ-loop
+cast-if3 c = search needs
+
 returns-3 : tie.Need-returns-3 Inv-loop μ-loop
 returns-3 c = inside-not _ _ _ (c .before .before .before .before .before .before .loop-test .taken) (omega (arith, c .if3 .taken, c .before .before .before .if2 .left))
 
@@ -58,6 +61,7 @@ names-inside-spec =
     mul-v
     element-copy-out-v
     returns-2
+    cast-if3
     returns-3
     add-i
     loop-less

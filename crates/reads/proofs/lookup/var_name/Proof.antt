@@ -29,6 +29,9 @@ mul-v c = let p = answer-says _ _ _ (sym (c .before .var-name-answer .ensures) �
 element-copy-out-v : tie.Need-element-copy-out-v
 element-copy-out-v c = let p = answer-says _ _ _ (sym (c .before .var-name-answer .ensures) ∙ c .if1 .left) in omega (arith, few _ _ (p .0), p .1)
 
+cast-end : tie.Need-cast-end
+cast-end c = search needs
+
 add-end : tie.Need-add-end
 add-end c = let a = c .before .before .before .before .before .args in let p = answer-says (a .s .now) (a .t2) (a .i) (sym (c .before .before .before .var-name-answer .ensures) ∙ c .before .before .if1 .left) in omega (arith, name-in (a .s .now) (a .t2) (p .0) (a .i) (p .1))
 
@@ -59,6 +62,7 @@ var-name-spec =
     returns
     mul-v
     element-copy-out-v
+    cast-end
     add-end
     sub-result-2
     part-result-start-2
