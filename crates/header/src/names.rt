@@ -100,6 +100,10 @@ pub fn attr_names_hold(s: &[u8], t: Tables, first: usize, n: usize) -> bool
     requires { ⌜ first + n ≤ 128 ⌝ }
     ensures { λ r. ⌜ r ≡ distinct (now (s .entry)) (attrNames t first) n ⌝ }
 {
+    // an empty list is not worth a copy of the rows
+    if n == 0 {
+        return true;
+    }
     let rows = t.attrs;
     let mut i = 0;
     while i < n {

@@ -42,7 +42,8 @@ pub struct Tested {
 fn row_holds(v: Var) -> bool
     ensures { λ r. ⌜ r ≡ rowHolds v ⌝ }
 {
-    if MAX_RANK < v.rank {
+    let rank = v.rank as usize;
+    if MAX_RANK < rank {
         return false;
     }
     if v.code < 1 {

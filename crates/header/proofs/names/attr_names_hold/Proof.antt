@@ -29,6 +29,9 @@ Inv-loop s first n rows i₀ i = (i ≤ n) × ((k : ℕ) → k < i → isNew s (
 abbrev μ-loop : tie.MeasureT-loop
 μ-loop s first n rows i₀ i = n - i
 
+returns : tie.Need-returns Inv-loop2 μ-loop2 Inv-loop μ-loop
+returns c = distinct-all _ _ _ (λ k l. absurd (omega arith))
+
 loop-holds : tie.Need-loop-holds Inv-loop2 μ-loop2 Inv-loop μ-loop
 loop-holds c = (omega arith, below-none _)
 
@@ -41,8 +44,8 @@ mul-a c = search needs
 array-copy-out-a : tie.Need-array-copy-out-a Inv-loop2 μ-loop2 Inv-loop μ-loop
 array-copy-out-a c = search needs
 
-returns : tie.Need-returns Inv-loop2 μ-loop2 Inv-loop μ-loop
-returns c = distinct-empty _ _ _ _ (c .before .before .before .loop-test .taken) (c .if1 .taken)
+returns-2 : tie.Need-returns-2 Inv-loop2 μ-loop2 Inv-loop μ-loop
+returns-2 c = distinct-empty _ _ _ _ (c .before .before .before .loop-test .taken) (c .if2 .taken)
 
 loop2-holds : tie.Need-loop2-holds Inv-loop2 μ-loop2 Inv-loop μ-loop
 loop2-holds c = (omega arith, below-none _)
@@ -65,8 +68,8 @@ cast-same-name-2 c = search needs
 same-name-requires : tie.Need-same-name-requires Inv-loop2 μ-loop2 Inv-loop μ-loop
 same-name-requires c κs = search needs
 
-returns-2 : tie.Need-returns-2 Inv-loop2 μ-loop2 Inv-loop μ-loop
-returns-2 c = distinct-twice _ _ _ _ _ (c .before .before .before .before .before .before .before .before .before .before .loop-test .taken) (c .before .before .before .before .before .loop2-test .taken) (sym (c .before .same-name .ensures) ∙ c .if2 .taken)
+returns-3 : tie.Need-returns-3 Inv-loop2 μ-loop2 Inv-loop μ-loop
+returns-3 c = distinct-twice _ _ _ _ _ (c .before .before .before .before .before .before .before .before .before .before .loop-test .taken) (c .before .before .before .before .before .loop2-test .taken) (sym (c .before .same-name .ensures) ∙ c .if3 .taken)
 
 add-j : tie.Need-add-j Inv-loop2 μ-loop2 Inv-loop μ-loop
 add-j c = search needs
@@ -75,7 +78,7 @@ loop2-less : tie.Need-loop2-less Inv-loop2 μ-loop2 Inv-loop μ-loop
 loop2-less c = search needs
 
 loop2-again : tie.Need-loop2-again Inv-loop2 μ-loop2 Inv-loop μ-loop
-loop2-again c = (omega arith, below-more _ _ (c .before .before .before .before .before .before .loop2 .inv .1) (sym (c .before .same-name .ensures) ∙ c .if2 .left))
+loop2-again c = (omega arith, below-more _ _ (c .before .before .before .before .before .before .loop2 .inv .1) (sym (c .before .same-name .ensures) ∙ c .if3 .left))
 
 add-i : tie.Need-add-i Inv-loop2 μ-loop2 Inv-loop μ-loop
 add-i c = search needs
@@ -84,10 +87,10 @@ loop-less : tie.Need-loop-less Inv-loop2 μ-loop2 Inv-loop μ-loop
 loop-less c = search needs
 
 loop-again : tie.Need-loop-again Inv-loop2 μ-loop2 Inv-loop μ-loop
-loop-again c = (omega arith, below-more _ _ (c .before .before .before .before .before .before .loop .inv .1) (new-if _ _ _ (c .before .before .if1 .left) (λ k l. c .before .loop2 .inv .1 k (omega arith))))
+loop-again c = (omega arith, below-more _ _ (c .before .before .before .before .before .before .loop .inv .1) (new-if _ _ _ (c .before .before .if2 .left) (λ k l. c .before .loop2 .inv .1 k (omega arith))))
 
-returns-3 : tie.Need-returns-3 Inv-loop2 μ-loop2 Inv-loop μ-loop
-returns-3 c = distinct-all _ _ _ (λ k l. c .before .loop .inv .1 k (omega arith))
+returns-4 : tie.Need-returns-4 Inv-loop2 μ-loop2 Inv-loop μ-loop
+returns-4 c = distinct-all _ _ _ (λ k l. c .before .loop .inv .1 k (omega arith))
 
 pub attr-names-hold-spec : {M : Type 1} → statement M
 attr-names-hold-spec =
@@ -97,11 +100,12 @@ attr-names-hold-spec =
     μ-loop2
     Inv-loop
     μ-loop
+    returns
     loop-holds
     add-a
     mul-a
     array-copy-out-a
-    returns
+    returns-2
     loop2-holds
     add-b
     mul-b
@@ -109,11 +113,11 @@ attr-names-hold-spec =
     cast-same-name
     cast-same-name-2
     same-name-requires
-    returns-2
+    returns-3
     add-j
     loop2-less
     loop2-again
     add-i
     loop-less
     loop-again
-    returns-3)
+    returns-4)
