@@ -1,14 +1,15 @@
 -- The record count (01, Records: "Record count").
 use Prim.Native.Nat.{ℕ, _-_, _*_, _/_, _%_, _^_}
-use mathlib.Core.Bool.{Bool, cond, _&&_, not}
+use mathlib.Core.Bool.{Bool, true, not}
 use lib.Dec.{ltb, leb, eqb}
 use Rattle.cdf.specs.Step.{Step, got, stop, test}
 use Rattle.cdf.specs.Below.{allBelow}
 use Rattle.cdf.specs.Form.{form}
 use Rattle.grammar.specs.Tables.{varAt}
 use Rattle.header.specs.Model.{unlimited}
-use Rattle.header.specs.Records.{isRecord, recordSize, smallest, maxPosition}
+use Rattle.header.specs.Records.{isRecord, recordSize, smallest, maxPosition, fixedEndsHold, recordEnd}
 use Rattle.grammar.specs.declared.tables.Tables.{Tables}
+use Rattle.header.specs.declared.records.Sizes.{Sizes}
 use Rattle.header.specs.declared.count.Counted.{Counted}
 use Rattle.header.specs.declared.count.Counted.the-variants.{Records, Refused}
 
@@ -32,6 +33,10 @@ isOpen t = eqb (t .word) (2 ^ (8 * form (t .version) .word) - 1)
 -- "smallest record begin"; rule 12 has bounded every begin
 unfoldable pub firstBegin : Tables → ℕ
 firstBegin t = smallest (λ i. isRecord (t .dims) (varAt t i)) (λ i. varAt t i .begin) maxPosition (t .nvars)
+
+-- the sizes of tables, where rule 12 holds. A word of inner contracts alone; no entry cites it
+abbrev pub sizesOf : Tables → Sizes
+sizesOf t = record { hold = true; step = recordSize t; first = firstBegin t; fixed = fixedEndsHold t; last = recordEnd t }
 
 -- "(size − smallest record begin) divided by record size": 14 where the size lies below it, 13 where the division leaves a rest
 unfoldable pub divided : ℕ → ℕ → ℕ → Step ℕ

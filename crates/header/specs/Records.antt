@@ -1,6 +1,6 @@
 -- Chunks and records (01, Records), as exact numbers.
-use Prim.Native.Nat.{ℕ, zero, suc, _+_, _-_, _*_, _^_, min}
-use mathlib.Core.Bool.{Bool, cond, _&&_}
+use Prim.Native.Nat.{ℕ, zero, suc, _+_, _-_, _*_, _^_, min, max}
+use mathlib.Core.Bool.{Bool, true, cond, _&&_, _||_}
 use mathlib.Core.List.{List}
 use lib.ListN.{getD}
 use lib.Dec.{ltb, leb, eqb}
@@ -12,6 +12,7 @@ use Rattle.grammar.specs.Tables.{varAt, idAt}
 use Rattle.grammar.specs.declared.tables.Dim.{Dim}
 use Rattle.grammar.specs.declared.tables.Var.{Var}
 use Rattle.grammar.specs.declared.tables.Tables.{Tables}
+use Rattle.header.specs.declared.records.Sizes.{Sizes}
 
 -- g 0 × g 1 × .. × g (n - 1), the empty product being 1
 unfoldable pub product : (ℕ → ℕ) → ℕ → ℕ
@@ -91,3 +92,44 @@ endOf t n v = lastEnd (isRecord (t .dims) v) (v .begin) (paddedBytes (t .dims) v
 -- rule 15: no variable ends above 2^62
 unfoldable pub endsHold : Tables → ℕ → Bool
 endsHold t n = allBelow (t .nvars) (λ i. leb (endOf t n (varAt t i)) maxPosition)
+
+-- ---- Words of inner contracts alone; no entry cites them.
+-- the largest of g i over the i below n of which p holds, or 0
+unfoldable pub largest : (ℕ → Bool) → (ℕ → ℕ) → ℕ → ℕ
+largest p g zero = 0
+largest p g (suc n) = cond (p n) (max (largest p g n) (g n)) (largest p g n)
+
+-- where the first chunk of the i-th variable ends
+abbrev pub firstEnd : Tables → ℕ → ℕ
+firstEnd t i = varAt t i .begin + paddedBytes (t .dims) (varAt t i)
+
+-- rule 15 for the i-th variable, if it is a fixed one
+abbrev pub fixedEnds : Tables → ℕ → Bool
+fixedEnds t i = isRecord (t .dims) (varAt t i) || leb (firstEnd t i) maxPosition
+
+-- rule 15 for the fixed variables
+unfoldable pub fixedEndsHold : Tables → Bool
+fixedEndsHold t = allBelow (t .nvars) (fixedEnds t)
+
+-- where the first record ends, or 0 where no variable has one
+unfoldable pub recordEnd : Tables → ℕ
+recordEnd t = largest (λ i. isRecord (t .dims) (varAt t i)) (firstEnd t) (t .nvars)
+
+-- sizes with one variable more, where rule 12 holds
+abbrev pub added : Sizes → Bool → ℕ → ℕ → Sizes
+added z records begin padded =
+    record {
+      hold = true;
+      step = z .step + cond records padded 0;
+      first = cond records (min (z .first) begin) (z .first);
+      fixed = z .fixed && (records || leb (begin + padded) maxPosition);
+      last = cond records (max (z .last) (begin + padded)) (z .last);
+    }
+
+-- whether rule 12 holds with one variable more
+abbrev pub stillHolds : Sizes → Bool → ℕ → ℕ → Bool
+stillHolds z records begin padded = leb begin maxPosition && (leb padded maxChunk && leb (added z records begin padded .step) maxChunk)
+
+-- rule 15 by the sizes, for n records
+abbrev pub endsIn : Sizes → ℕ → Bool
+endsIn z n = z .fixed && (eqb n 0 || leb (z .last + (n - 1) * z .step) maxPosition)

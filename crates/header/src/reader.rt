@@ -45,11 +45,10 @@ fn judged(s: &[u8], t: Tables, end: usize) -> Header
     if !z.hold {
         return refused(12, 0);
     }
-    let step = z.step;
-    match record_count(t, step) {
+    match record_count(t, z) {
         Counted::Refused(k) => refused(k, 0),
         Counted::Records(n) => {
-            if !ends_hold(t, step, n) {
+            if !ends_hold(z, n) {
                 return refused(15, 0);
             }
             let mut tables = t;

@@ -1,14 +1,15 @@
 // Chunks, the record size, and where variables end. Sizes are exact up to the limit of rule 12 and
 // stay one above it from there on, so that no product or sum wraps.
 ghost use mathlib.Core.Path.{_≡_};
-ghost use mathlib.Core.Bool.{true, cond};
-ghost use Prim.Native.Nat.{ℕ, _+_, _*_, _≤_, _<_};
-ghost use lib.Dec.{ltb, leb};
+ghost use mathlib.Core.Bool.{true};
+ghost use Prim.Native.Nat.{ℕ, _+_, _*_, _≤_, _<_, min, max};
+ghost use lib.Dec.{ltb};
 ghost use Rattle.cdf.specs.Padding.{padding};
 ghost use Rattle.items.specs.Types.{typeOf, sizeOf};
 ghost use Rattle.grammar.specs.Tables.{idAt};
 ghost use Rattle.header.specs.Model.{idsHold};
-ghost use Rattle.header.specs.Records.{isRecord, outer, chunk, chunkBytes, recordSize, capped, maxChunk, maxPosition, lastEnd, sizesHold, endsHold};
+ghost use Rattle.header.specs.Records.{isRecord, outer, chunk, chunkBytes, capped, maxChunk, sizesHold, added, stillHolds, endsIn};
+ghost use Rattle.header.specs.Count.{sizesOf};
 ghost use Rattle.grammar.specs.Within.{Shaped};
 use cdf::padding::compute_padding_size;
 use grammar::tables::Dim;
@@ -20,16 +21,26 @@ use items::types::DataType;
 // The largest padded chunk and record size.
 pub const MAX_CHUNK: u64 = 0x1000_0000_0000_0000;
 
-// The record size, where rule 12 holds.
+// What one pass over the variables finds: whether rule 12 holds, and where it does, the record size, the
+// smallest begin of a record variable, whether the fixed variables end inside, and the largest end of a
+// record variable's first chunk.
 pub struct Sizes {
     pub hold: bool,
     pub step: u64,
+    pub first: u64,
+    pub fixed: bool,
+    pub last: u64,
 }
 
-// The product of the number that `a` stands for and `b`.
+// The product of the number that `a` stands for and `b`; without a division where both are small.
 fn times(a: u64, b: u64) -> u64
     ensures { λ r. ⌜ ((x : ℕ) → a ≡ capped x → r ≡ capped (x * b)) ⌝ }
 {
+    if a < 0x1000_0000 {
+        if b < 0x1_0000_0000 {
+            return a * b;
+        }
+    }
     if b == 0 {
         return 0;
     }
@@ -86,92 +97,118 @@ pub fn chunk_bytes(dims: [Dim; 32], v: Var) -> u64
     times(chunk_len(dims, v), kind.size_of())
 }
 
-// What a chunk of `bytes` bytes adds to a record.
-fn record_part(records: bool, bytes: u64) -> u64
-    requires { ⌜ bytes ≤ maxChunk ⌝ }
-    ensures { λ r. ⌜ (r ≡ cond records (bytes + padding bytes) 0) × (r ≤ maxChunk) ⌝ }
+// The padded bytes of a chunk of `len` elements; above the limit where they are.
+fn padded_bytes(len: u64, code: u8) -> u64
+    requires { ⌜ (len ≤ maxChunk + 1) × (1 ≤ code) × (code ≤ 6) ⌝ }
+    ensures { λ r. ⌜ ((x : ℕ) → len ≡ capped x → capped r ≡ capped (x * sizeOf (typeOf code) + padding (x * sizeOf (typeOf code)))) ⌝ }
 {
-    if records {
-        return bytes + compute_padding_size(bytes);
-    }
-    0
+    let kind = DataType::of_code(code as u64);
+    let bytes = times(len, kind.size_of());
+    bytes + compute_padding_size(bytes)
 }
 
-// Rule 12, and the record size.
+fn smaller(a: u64, b: u64) -> u64
+    ensures { λ r. ⌜ r ≡ min a b ⌝ }
+{
+    if b < a { b } else { a }
+}
+
+fn larger(a: u64, b: u64) -> u64
+    ensures { λ r. ⌜ r ≡ max a b ⌝ }
+{
+    if a < b { b } else { a }
+}
+
+// The sizes with one variable more, of `padded` bytes a chunk.
+fn added(z: Sizes, records: bool, begin: u64, padded: u64) -> Sizes
+    requires { ⌜ z .step ≤ maxChunk ⌝ }
+    ensures { λ r. ⌜ (r .hold ≡ stillHolds z records begin padded) × (r .hold ≡ true → r ≡ added z records begin padded) ⌝ }
+{
+    let mut r = z;
+    r.hold = false;
+    if MAX_POSITION < begin {
+        return r;
+    }
+    if MAX_CHUNK < padded {
+        return r;
+    }
+    let end = begin + padded;
+    if records {
+        r.step = z.step + padded;
+        r.hold = r.step <= MAX_CHUNK;
+        r.first = smaller(z.first, begin);
+        r.last = larger(z.last, end);
+        return r;
+    }
+    r.hold = true;
+    if MAX_POSITION < end {
+        r.fixed = false;
+    }
+    r
+}
+
+// Rule 12, and the sizes.
 pub fn measure(t: Tables) -> Sizes
     requires { ⌜ Shaped t × (idsHold t ≡ true) ⌝ }
-    ensures { λ r. ⌜ (r .hold ≡ sizesHold t) × (r .hold ≡ true → r .step ≡ recordSize t) ⌝ }
+    ensures { λ r. ⌜ (r .hold ≡ sizesHold t) × (r .hold ≡ true → r ≡ sizesOf t) ⌝ }
 {
-    let broken = Sizes {
-        hold: false,
-        step: 0,
-    };
     let dims = t.dims;
     let vars = t.vars;
-    let mut step = 0;
+    let mut z = Sizes {
+        hold: true,
+        step: 0,
+        first: MAX_POSITION,
+        fixed: true,
+        last: 0,
+    };
     let mut i = 0;
     while i < t.nvars {
         let v = vars[i];
-        if MAX_POSITION < v.begin {
-            return broken;
+        let mut records = false;
+        let mut len = 1;
+        let mut k = 0;
+        while k < v.rank {
+            let id = v.ids[k] as usize;
+            let d = dims[id];
+            // where the ids hold, the unlimited dimension stands only first
+            if d.length == 0 {
+                records = true;
+            } else {
+                len = times(len, d.length);
+            }
+            k += 1;
         }
-        let bytes = chunk_bytes(dims, v);
-        if MAX_CHUNK < bytes {
-            return broken;
-        }
-        step += record_part(is_record(dims, v), bytes);
-        if MAX_CHUNK < step {
-            return broken;
+        z = added(z, records, v.begin, padded_bytes(len, v.code));
+        if !z.hold {
+            return z;
         }
         i += 1;
     }
-    Sizes { hold: true, step }
+    z
 }
 
-// Whether `steps` records of `step` bytes reach past the largest position.
-fn passes(steps: u64, step: u64) -> bool
-    ensures { λ r. ⌜ r ≡ ltb maxPosition (steps * step) ⌝ }
+// Whether `steps` records of `step` bytes take more than `room` bytes.
+fn passes(steps: u64, step: u64, room: u64) -> bool
+    ensures { λ r. ⌜ r ≡ ltb room (steps * step) ⌝ }
 {
     if step == 0 {
         return false;
     }
-    MAX_POSITION / step < steps
+    room / step < steps
 }
 
-// Whether the last of `n` chunks ends inside; a fixed variable has one.
-fn end_holds(records: bool, begin: u64, padded: u64, step: u64, n: u64) -> bool
-    requires { ⌜ (begin ≤ maxPosition) × (padded ≤ maxChunk) ⌝ }
-    ensures { λ r. ⌜ r ≡ leb (lastEnd records begin padded step n) maxPosition ⌝ }
+// Rule 15, where rule 12 holds, for `n` records.
+pub fn ends_hold(z: Sizes, n: u64) -> bool
+    ensures { λ r. ⌜ r ≡ endsIn z n ⌝ }
 {
-    if !records {
-        return begin + padded <= MAX_POSITION;
+    if !z.fixed {
+        return false;
     }
     if n == 0 {
         return true;
     }
-    let steps = n - 1;
-    if passes(steps, step) {
+    if MAX_POSITION < z.last {
         return false;
     }
-    begin + steps * step + padded <= MAX_POSITION
-}
-
-// Rule 15, where rule 12 holds, for `n` records of `step` bytes.
-pub fn ends_hold(t: Tables, step: u64, n: u64) -> bool
-    requires { ⌜ Shaped t × (idsHold t ≡ true) × (sizesHold t ≡ true) × (step ≡ recordSize t) ⌝ }
-    ensures { λ r. ⌜ r ≡ endsHold t n ⌝ }
-{
-    let dims = t.dims;
-    let vars = t.vars;
-    let mut i = 0;
-    while i < t.nvars {
-        let v = vars[i];
-        let bytes = chunk_bytes(dims, v);
-        let padded = bytes + compute_padding_size(bytes);
-        if !end_holds(is_record(dims, v), v.begin, padded, step, n) {
-            return false;
-        }
-        i += 1;
-    }
-    true
+    !passes(n - 1, z.step, MAX_POSITION - z.last)
 }

@@ -1,15 +1,14 @@
 -- Laws of chunks, record sizes and ends.
-use Prim.Native.Nat.{ℕ, zero, suc, _+_, _-_, _*_, _/_, _%_, _≤_, _<_, min}
+use Prim.Native.Nat.{ℕ, zero, suc, _+_, _-_, _*_, _/_, _≤_, _<_, min, max}
 use native.Mathlib.Omega.{arith}
 use native.Mathlib.Numerals.{add-one}
-use native.Mathlib.Nat.{mul-zero, div-lt-iff-lt-mul, le-div-iff-mul-le, div-le-self, le-mul-of-pos-right, le-trans, mul-pos, not-suc-le-zero}
+use native.Mathlib.Nat.{mul-zero, div-lt-iff-lt-mul, le-div-iff-mul-le, div-le-self, le-mul-of-pos-right, le-trans, mul-pos, mul-le-mul, add-zero, le-max-left, le-max-right, max-le, not-suc-le-zero, le-of-suc-le-suc, eq-or-lt-of-le}
 use mathlib.Core.Path.{_≡_, refl, sym, ap, subst, _∙_}
 use mathlib.Core.Logic.{⊎-elim}
-use mathlib.Core.Bool.{Bool, true, false, cond, _&&_, _||_, not, and-false, false≢true}
+use mathlib.Core.Bool.{Bool, true, false, cond, _&&_, _||_, not, and-false, and-true, false≢true}
 use mathlib.Core.List.{List}
-use lib.ListN.{getD}
 use lib.Dec.{ltb, leb, eqb, lit≤}
-use borrow.Author.Tests.{lt-ltb, le-ltb, le-leb, lt-leb, eq-eqb, ne-eqb, ltb-true, leb-true, eqb-true, eqb-false}
+use borrow.Author.Tests.{lt-ltb, le-ltb, le-leb, lt-leb, eq-eqb, ne-eqb, ltb-true, leb-true}
 use Rattle.cdf.specs.Below.{allBelow}
 use Rattle.cdf.specs.Padding.{padding}
 use Rattle.items.specs.Types.{typeOf, sizeOf}
@@ -18,10 +17,11 @@ use Rattle.items.specs.declared.types.DataType.the-variants.{I8, U8, I16, I32, 
 use Rattle.cdf.proofs.Laws.Below.{order, both, all-hold, one-fails, holds-at}
 use Rattle.grammar.specs.Tables.{varAt, idAt, dimAt}
 use Rattle.header.specs.Model.{idHolds, idsHold}
-use Rattle.header.specs.Records.{product, total, smallest, lengthAt, isRecord, outer, chunk, chunkBytes, paddedBytes, recordPart, recordSize, maxPosition, maxChunk, capped, placed, sizesHold, lastEnd, endOf, endsHold}
+use Rattle.header.specs.Records.{product, total, lengthAt, isRecord, outer, chunk, chunkBytes, paddedBytes, recordPart, recordSize, maxPosition, maxChunk, capped, placed, sizesHold, largest, added, stillHolds, endsIn}
 use Rattle.grammar.specs.declared.tables.Dim.{Dim}
 use Rattle.grammar.specs.declared.tables.Var.{Var}
 use Rattle.grammar.specs.declared.tables.Tables.{Tables}
+use Rattle.header.specs.declared.records.Sizes.{Sizes}
 
 -- a number that is capped
 pub capped-in : (x : ℕ) → x ≤ maxChunk → capped x ≡ x
@@ -29,6 +29,14 @@ capped-in x h = rw (le-leb x maxChunk h)
 
 pub capped-over : (x : ℕ) → maxChunk < x → capped x ≡ maxChunk + 1
 capped-over x h = rw (lt-leb x maxChunk h)
+
+-- a capped number is one above the limit at most
+pub capped-most : (x : ℕ) → capped x ≤ maxChunk + 1
+capped-most x = ⊎-elim (λ (l : x ≤ maxChunk). let e = capped-in x l in omega arith) (λ (l : maxChunk < x). let e = capped-over x l in omega arith) (order x maxChunk)
+
+-- and stands for itself where it is no more
+pub capped-self : (x : ℕ) → x ≤ maxChunk + 1 → x ≡ capped x
+capped-self x h = ⊎-elim (λ (l : x ≤ maxChunk). sym (capped-in x l)) (λ (l : maxChunk < x). let e : x ≡ maxChunk + 1 = omega arith in e ∙ sym (capped-over x l)) (order x maxChunk)
 
 -- what a capped number within the limit stands for
 pub capped-is : {a : ℕ} (x : ℕ) → a ≡ capped x → a ≤ maxChunk → a ≡ x
@@ -39,8 +47,36 @@ capped-is x e h =
 pub capped-above : {a : ℕ} (x : ℕ) → a ≡ capped x → maxChunk < a → maxChunk < x
 capped-above x e h = ⊎-elim (λ (l : x ≤ maxChunk). let f = e ∙ capped-in x l in omega arith) (λ (l : maxChunk < x). l) (order x maxChunk)
 
+-- of two numbers that are capped alike
+module _ (p q : ℕ) (alike : capped p ≡ capped q) where
+  pub capped-same : p ≤ maxChunk → p ≡ q
+  capped-same h = capped-is q (sym (capped-in p h) ∙ alike) h
+
+  pub capped-both : maxChunk < p → maxChunk < q
+  capped-both h = capped-above q (sym (capped-over p h) ∙ alike) (omega arith)
+
+-- padded bytes, by the bytes at hand
+pub padded-by : (b x w s : ℕ) {p : ℕ} → b ≡ capped (x * w) → p ≡ padding b → w ≡ s → capped (b + p) ≡ capped (x * s + padding (x * s))
+padded-by b x w s {p} e f g =
+    ap (λ (n : ℕ). capped (b + n)) f ∙ alike (x * w) e ∙ ap (λ (n : ℕ). capped (x * n + padding (x * n))) g
+  where
+    alike : (y : ℕ) → b ≡ capped y → capped (b + padding b) ≡ capped (y + padding y)
+    alike y e =
+        ⊎-elim
+        (λ (l : y ≤ maxChunk). ap (λ (n : ℕ). capped (n + padding n)) (e ∙ capped-in y l))
+        (λ (l : maxChunk < y). let f = e ∙ capped-over y l in capped-over (b + padding b) (omega arith) ∙ sym (capped-over (y + padding y) (omega arith)))
+        (order y maxChunk)
+
 pub times-fits : (a b : ℕ) → 0 < b → a ≤ maxChunk / b → a * b ≤ maxChunk
 times-fits a b p h = le-div-iff-mul-le p .0 h
+
+-- the first factor is one that the limit divided gives
+pub times-small : (a b : ℕ) → a ≤ maxChunk / b → a ≤ maxChunk
+times-small a b h = le-trans h (div-le-self maxChunk b)
+
+-- factors below 2^28 and 2^32
+pub times-short : (a b : ℕ) → a < 268435456 → b < 4294967296 → a * b ≤ maxChunk
+times-short a b h l = mul-le-mul {n₁ = a} {m₁ = b} {n₂ = 268435456} {m₂ = 4294967296} (omega arith) (omega arith)
 
 module _ {a : ℕ} (b x : ℕ) (is : a ≡ capped x) where
   pub times-zero : b ≡ 0 → 0 ≡ capped (x * b)
@@ -54,13 +90,10 @@ module _ {a : ℕ} (b x : ℕ) (is : a ≡ capped x) where
       (λ (l : maxChunk < x). le-trans l (le-mul-of-pos-right x p))
       (order x maxChunk)))
 
-  small : 0 < b → a ≤ maxChunk / b → a ≤ maxChunk
-  small p h = le-trans h (div-le-self maxChunk b)
-
-  pub times-in : 0 < b → a ≤ maxChunk / b → a * b ≡ capped (x * b)
-  times-in p h =
-      let e = capped-is x is (small p h) in
-      ap (λ (y : ℕ). y * b) e ∙ sym (capped-in (x * b) (subst (λ (y : ℕ). y * b ≤ maxChunk) e (times-fits a b p h)))
+  pub times-in : a ≤ maxChunk → a * b ≤ maxChunk → a * b ≡ capped (x * b)
+  times-in h f =
+      let e = capped-is x is h in
+      ap (λ (y : ℕ). y * b) e ∙ sym (capped-in (x * b) (subst (λ (y : ℕ). y * b ≤ maxChunk) e f))
 
 module _ (ds : List Dim) (v : Var) where
   pub record-none : v .rank ≡ 0 → false ≡ isRecord ds v
@@ -84,9 +117,9 @@ module _ (ds : List Dim) (v : Var) where
   abbrev pub firstLengths : ℕ → ℕ
   firstLengths n = product (λ k. lengthAt ds v (outer ds v + k)) n
 
-  pub lengths-none : 1 ≡ capped (firstLengths 0)
+  pub lengths-none : {n : ℕ} → n ≡ 0 → 1 ≡ capped (firstLengths n)
   unfolding product
-  lengths-none = refl
+  lengths-none e = rw e
 
   pub lengths-more : {p : ℕ} (k : ℕ) → outer ds v ≤ k → ((x : ℕ) → capped (firstLengths (k - outer ds v)) ≡ capped x → p ≡ capped (x * lengthAt ds v k)) → p ≡ capped (firstLengths (k + 1 - outer ds v))
   unfolding product
@@ -100,17 +133,60 @@ module _ (ds : List Dim) (v : Var) where
   unfolding chunk
   lengths-all e = ap (λ (i : ℕ). capped (firstLengths (i - outer ds v))) e
 
+  -- whether the unlimited dimension is among the first k
+  abbrev pub seen : ℕ → Bool
+  seen k = ltb 0 k && eqb (lengthAt ds v 0) 0
+
+  pub seen-all : {k : ℕ} → k ≡ v .rank → seen k ≡ isRecord ds v
+  unfolding isRecord
+  seen-all e = ap seen e
+
+  -- an unlimited dimension at 0 is no part of the chunk
+  module _ (k : ℕ) (inside : k < v .rank) (first : k ≡ 0) (none : lengthAt ds v k ≡ 0) where
+    none-first : lengthAt ds v 0 ≡ 0
+    none-first = ap (lengthAt ds v) (sym first) ∙ none
+
+    pub seen-first : true ≡ seen (k + 1)
+    seen-first = rw (lt-ltb 0 (k + 1) (omega arith), eq-eqb (lengthAt ds v 0) 0 none-first)
+
+    pub lengths-first : firstLengths (k - outer ds v) ≡ firstLengths (k + 1 - outer ds v)
+    unfolding isRecord
+    lengths-first =
+        let one : outer ds v ≡ 1 = rw (lt-ltb 0 (v .rank) (omega arith), eq-eqb (lengthAt ds v 0) 0 none-first) in
+        let n : k - outer ds v ≡ k + 1 - outer ds v = omega arith in
+        ap firstLengths n
+
+  -- a dimension of some length is part of it
+  module _ (k : ℕ) (some : lengthAt ds v k ≡ 0 → ⊥) where
+    some-first : k ≡ 0 → eqb (lengthAt ds v 0) 0 ≡ false
+    some-first e = ne-eqb (lengthAt ds v 0) 0 (λ z. some (ap (lengthAt ds v) e ∙ z))
+
+    pub seen-more : seen k ≡ seen (k + 1)
+    seen-more =
+        ⊎-elim
+        (λ (h : k ≤ 0). let f = some-first (omega arith) in rw (le-ltb 0 k h, f, and-false (ltb 0 (k + 1))))
+        (λ (h : 0 < k). rw (lt-ltb 0 k h, lt-ltb 0 (k + 1) (omega arith)))
+        (order k 0)
+
+    pub outer-below : outer ds v ≤ k
+    unfolding isRecord
+    outer-below =
+        ⊎-elim
+        (λ (h : k ≤ 0). let f = some-first (omega arith) in rw (f, and-false (ltb 0 (v .rank))) (omega arith))
+        (λ (h : 0 < k). most h (isRecord ds v))
+        (order k 0)
+      where
+        most : 0 < k → (b : Bool) → cond b 1 0 ≤ k
+        most h true = h
+        most h false = omega arith
+
   pub bytes-are : (w : ℕ) → w ≡ sizeOf (typeOf (v .code)) → capped (chunk ds v * w) ≡ capped (chunkBytes ds v)
   unfolding chunkBytes
   bytes-are w e = ap (λ (i : ℕ). capped (chunk ds v * i)) e
 
-  pub padded-are : {b : ℕ} → b ≡ chunkBytes ds v → b + padding b ≡ paddedBytes ds v
-  unfolding paddedBytes
-  padded-are e = ap (λ (i : ℕ). i + padding i) e
-
--- the limit is a multiple of 4: a padded chunk passes it where the chunk does
-pub padded-in : (b : ℕ) → b ≤ maxChunk → b + padding b ≤ maxChunk
-padded-in b h = omega arith
+  pub padded-is : capped (chunk ds v * sizeOf (typeOf (v .code)) + padding (chunk ds v * sizeOf (typeOf (v .code)))) ≡ capped (paddedBytes ds v)
+  unfolding paddedBytes chunkBytes
+  padded-is = refl
 
 -- ---- every length of a chunk, and so a chunk, is at least 1 where the ids hold
 product-pos : (g : ℕ → ℕ) (n : ℕ) → ((k : ℕ) → k < n → 0 < g k) → 0 < product g n
@@ -147,6 +223,10 @@ module _ (t : Tables) (ids : idsHold t ≡ true) (i : ℕ) (inside : i < t .nvar
   pub ids-below : t .ndims ≤ 32 → (k : ℕ) → k < varAt t i .rank → idAt (varAt t i) k < 32
   ids-below h k l = let b = holds-below t (varAt t i) k (own k l) in omega arith
 
+  -- the unlimited dimension stands first
+  pub only-first : (k : ℕ) → k < varAt t i .rank → lengthAt (t .dims) (varAt t i) k ≡ 0 → k ≡ 0
+  only-first k l z = ⊎-elim (λ (h : k ≤ 0). omega arith) (λ (h : 0 < k). absurd (holds-fixed t (varAt t i) k (own k l) h z)) (order k 0)
+
   -- a length inside the chunk is not 0
   inner : (k : ℕ) → outer (t .dims) (varAt t i) + k < varAt t i .rank → lengthAt (t .dims) (varAt t i) (outer (t .dims) (varAt t i) + k) ≡ 0 → ⊥
   unfolding isRecord
@@ -174,10 +254,6 @@ module _ (t : Tables) (ids : idsHold t ≡ true) (i : ℕ) (inside : i < t .nvar
       positive (suc n) z = omega arith
 
 -- ---- sums
-pub total-none : (g : ℕ → ℕ) → 0 ≡ total g 0
-unfolding total
-total-none g = refl
-
 pub total-more : (g : ℕ → ℕ) (n : ℕ) → total g (n + 1) ≡ total g n + g n
 unfolding total
 total-more g n = rw add-one
@@ -190,12 +266,9 @@ total-grows g m (suc n) h =
 
 -- ---- rule 12
 module _ (t : Tables) where
-  pub part : ℕ → ℕ
+  -- what the i-th variable adds to a record
+  abbrev pub part : ℕ → ℕ
   part i = recordPart (t .dims) (varAt t i)
-
-  pub size-is : total part (t .nvars) ≡ recordSize t
-  unfolding recordSize part
-  size-is = refl
 
   pub placed-if : (i : ℕ) → varAt t i .begin ≤ maxPosition → paddedBytes (t .dims) (varAt t i) ≤ maxChunk → placed t i ≡ true
   placed-if i h l = rw (le-leb (varAt t i .begin) maxPosition h, le-leb (paddedBytes (t .dims) (varAt t i)) maxChunk l)
@@ -210,7 +283,7 @@ module _ (t : Tables) where
       sym (rw (one-fails (placed t) (t .nvars) i l (rw (lt-leb (paddedBytes (t .dims) (varAt t i)) maxChunk h) (and-false (leb (varAt t i .begin) maxPosition)))))
 
   pub sizes-sum : (i : ℕ) → i ≤ t .nvars → maxChunk < total part i → false ≡ sizesHold t
-  unfolding sizesHold recordSize part
+  unfolding sizesHold recordSize
   sizes-sum i l h =
       let g = total-grows (λ k. recordPart (t .dims) (varAt t k)) i (t .nvars) l in
       sym (rw (lt-leb (recordSize t) maxChunk (omega arith)) (and-false (allBelow (t .nvars) (placed t))))
@@ -219,87 +292,109 @@ module _ (t : Tables) where
   unfolding sizesHold
   sizes-all h l = sym (rw (all-hold (placed t) (t .nvars) h, le-leb (recordSize t) maxChunk l))
 
-  module _ (sizes : sizesHold t ≡ true) (i : ℕ) (inside : i < t .nvars) where
-    here : (leb (varAt t i .begin) maxPosition ≡ true) × (leb (paddedBytes (t .dims) (varAt t i)) maxChunk ≡ true)
-    unfolding sizesHold
-    here = both _ _ (holds-at (placed t) (t .nvars) i (both (allBelow (t .nvars) (placed t)) (leb (recordSize t) maxChunk) sizes .0) inside)
+  pub begin-in : sizesHold t ≡ true → (i : ℕ) → i < t .nvars → varAt t i .begin ≤ maxPosition
+  unfolding sizesHold
+  begin-in sizes i inside =
+      let p = holds-at (placed t) (t .nvars) i (both (allBelow (t .nvars) (placed t)) (leb (recordSize t) maxChunk) sizes .0) inside in
+      leb-true _ _ (both (leb (varAt t i .begin) maxPosition) (leb (paddedBytes (t .dims) (varAt t i)) maxChunk) p .0)
 
-    pub begin-in : varAt t i .begin ≤ maxPosition
-    begin-in = leb-true _ _ (here .0)
+-- whether steps take more than the room, by a division
+pub passes-none : (room n m : ℕ) → m ≡ 0 → false ≡ ltb room (n * m)
+passes-none room n m e = rw (e, mul-zero) (sym (le-ltb room 0 (omega arith)))
 
-    pub chunk-in : paddedBytes (t .dims) (varAt t i) ≤ maxChunk
-    chunk-in = leb-true _ _ (here .1)
-
-  -- ---- rule 15
-  pub ends-all : (n : ℕ) → ((i : ℕ) → i < t .nvars → leb (endOf t n (varAt t i)) maxPosition ≡ true) → true ≡ endsHold t n
-  unfolding endsHold
-  ends-all n h = sym (all-hold _ (t .nvars) h)
-
-  pub ends-not : (n i : ℕ) → i < t .nvars → leb (endOf t n (varAt t i)) maxPosition ≡ false → false ≡ endsHold t n
-  unfolding endsHold
-  ends-not n i l e = sym (one-fails _ (t .nvars) i l e)
-
--- chunk bytes, where the padded ones are within the limit
-pub bytes-in : (ds : List Dim) (v : Var) → paddedBytes ds v ≤ maxChunk → chunkBytes ds v ≤ maxChunk
-unfolding paddedBytes
-bytes-in ds v h = omega arith
-
-pub bytes-over : (ds : List Dim) (v : Var) → maxChunk < chunkBytes ds v → maxChunk < paddedBytes ds v
-unfolding paddedBytes
-bytes-over ds v h = omega arith
-
--- what a variable adds to the record size, by the numbers at hand
-module _ (t : Tables) (i : ℕ) where
-  pub part-of : {r x : ℕ} {b : Bool} → r ≡ cond b (x + padding x) 0 → b ≡ isRecord (t .dims) (varAt t i) → x ≡ chunkBytes (t .dims) (varAt t i) → r ≡ part t i
-  unfolding part
-  part-of {r} {x} {b} e f g = e ∙ ap (λ (y : Bool). cond y (x + padding x) 0) f ∙ ap (λ (y : ℕ). cond (isRecord (t .dims) (varAt t i)) y 0) (padded-are (t .dims) (varAt t i) g)
-
-  pub sum-more : {s r : ℕ} → s ≡ total (part t) i → r ≡ part t i → s + r ≡ total (part t) (i + 1)
-  sum-more {s} {r} e f = let m = total-more (part t) i in omega arith
-
-  -- a variable's end, by the numbers at hand
-  pub end-of : {b : Bool} {p s : ℕ} (n : ℕ) → b ≡ isRecord (t .dims) (varAt t i) → p ≡ paddedBytes (t .dims) (varAt t i) → s ≡ recordSize t
-      → leb (lastEnd b (varAt t i .begin) p s n) maxPosition ≡ leb (endOf t n (varAt t i)) maxPosition
-  end-of n e f g = rw (e, f, g)
-
--- whether steps pass the largest position, by a division
-pub passes-none : (n m : ℕ) → m ≡ 0 → false ≡ ltb maxPosition (n * m)
-passes-none n m e = rw (e, mul-zero)
-
-pub passes-by : (n m : ℕ) → 0 < m → ltb (maxPosition / m) n ≡ ltb maxPosition (n * m)
-passes-by n m p =
+pub passes-by : (room n m : ℕ) → 0 < m → ltb (room / m) n ≡ ltb room (n * m)
+passes-by room n m p =
     ⊎-elim
-    (λ (h : n ≤ maxPosition / m). le-ltb _ n h ∙ sym (le-ltb maxPosition (n * m) (le-div-iff-mul-le p .0 h)))
-    (λ (h : maxPosition / m < n). lt-ltb _ n h ∙ sym (lt-ltb maxPosition (n * m) (div-lt-iff-lt-mul p .0 h)))
-    (order n (maxPosition / m))
-
-module _ {b : Bool} (begin padded step n : ℕ) where
-  pub end-fixed : b ≡ false → leb (begin + padded) maxPosition ≡ leb (lastEnd b begin padded step n) maxPosition
-  end-fixed e = rw e
-
-  pub end-none : b ≡ true → n ≡ 0 → begin ≤ maxPosition → true ≡ leb (lastEnd b begin padded step n) maxPosition
-  end-none e f h = rw (e, f) (sym (le-leb begin maxPosition h))
-
-  module _ (rec : b ≡ true) (some : n ≡ 0 → ⊥) where
-    pub end-last : leb (begin + (n - 1) * step + padded) maxPosition ≡ leb (lastEnd b begin padded step n) maxPosition
-    end-last = rw (rec, ne-eqb n 0 some)
-
-    pub end-over : maxPosition < (n - 1) * step → false ≡ leb (lastEnd b begin padded step n) maxPosition
-    end-over h = sym (sym end-last ∙ lt-leb _ maxPosition far)
-      where
-        far : maxPosition < begin + (n - 1) * step + padded
-        far = omega arith
+    (λ (h : n ≤ room / m). le-ltb _ n h ∙ sym (le-ltb room (n * m) (le-div-iff-mul-le p .0 h)))
+    (λ (h : room / m < n). lt-ltb _ n h ∙ sym (lt-ltb room (n * m) (div-lt-iff-lt-mul p .0 h)))
+    (order n (room / m))
 
 pub never : (X : Type 0) → _≡_ {A = Bool} false true → X
 never X e = absurd (false≢true e)
 
--- the bytes and padded bytes of a chunk that rule 12 bounds, by the numbers at hand
-module _ (ds : List Dim) (v : Var) (bounded : paddedBytes ds v ≤ maxChunk) {b : ℕ} (is : b ≡ capped (chunkBytes ds v)) where
-  pub bytes-known : b ≡ chunkBytes ds v
-  bytes-known = is ∙ capped-in (chunkBytes ds v) (bytes-in ds v bounded)
+-- ---- one variable more
+module _ (z : Sizes) (records : Bool) (begin padded : ℕ) where
+  pub still-begin : maxPosition < begin → false ≡ stillHolds z records begin padded
+  still-begin h = rw (lt-leb begin maxPosition h)
 
-  pub bytes-bound : b ≤ maxChunk
-  bytes-bound = let e = bytes-known in let h = bytes-in ds v bounded in omega arith
+  pub still-chunk : begin ≤ maxPosition → maxChunk < padded → false ≡ stillHolds z records begin padded
+  still-chunk h l = rw (le-leb begin maxPosition h, lt-leb padded maxChunk l)
 
-  pub padded-known : {p : ℕ} → p ≡ padding b → b + p ≡ paddedBytes ds v
-  padded-known {p} e = ap (λ (n : ℕ). b + n) e ∙ padded-are ds v bytes-known
+  pub still-step : begin ≤ maxPosition → padded ≤ maxChunk → leb (z .step + cond records padded 0) maxChunk ≡ stillHolds z records begin padded
+  still-step h l = rw (le-leb begin maxPosition h, le-leb padded maxChunk l)
+
+  -- what holds where rule 12 still does
+  pub still-is : stillHolds z records begin padded ≡ true → (begin ≤ maxPosition) × (padded ≤ maxChunk) × (z .step + cond records padded 0 ≤ maxChunk)
+  still-is e =
+      let a = both (leb begin maxPosition) _ e in
+      let b = both (leb padded maxChunk) (leb (z .step + cond records padded 0) maxChunk) (a .1) in
+      (leb-true _ _ (a .0), leb-true _ _ (b .0), leb-true _ _ (b .1))
+
+  -- a record variable
+  pub still-record : begin ≤ maxPosition → padded ≤ maxChunk → records ≡ true → leb (z .step + padded) maxChunk ≡ stillHolds z records begin padded
+  still-record h l e = rw (le-leb begin maxPosition h, le-leb padded maxChunk l, e)
+
+  pub added-record : {h : Bool} {f l : ℕ} → records ≡ true → h ≡ true → f ≡ min (z .first) begin → l ≡ max (z .last) (begin + padded)
+      → record { hold = h; step = z .step + padded; first = f; fixed = z .fixed; last = l } ≡ added z records begin padded
+  added-record e q f l = rw (e, q, f, l, and-true (z .fixed))
+
+  -- a fixed variable
+  pub still-fixed : begin ≤ maxPosition → padded ≤ maxChunk → records ≡ false → z .step ≤ maxChunk → true ≡ stillHolds z records begin padded
+  still-fixed h l e b = rw (le-leb begin maxPosition h, le-leb padded maxChunk l, e, add-zero) (sym (le-leb (z .step) maxChunk b))
+
+  pub added-over : records ≡ false → maxPosition < begin + padded
+      → record { hold = true; step = z .step; first = z .first; fixed = false; last = z .last } ≡ added z records begin padded
+  added-over e h = rw (e, add-zero, lt-leb (begin + padded) maxPosition h, and-false (z .fixed))
+
+  pub added-inside : records ≡ false → begin + padded ≤ maxPosition
+      → record { hold = true; step = z .step; first = z .first; fixed = z .fixed; last = z .last } ≡ added z records begin padded
+  added-inside e h = rw (e, add-zero, le-leb (begin + padded) maxPosition h, and-true (z .fixed))
+
+-- ---- rule 15 by the sizes
+module _ (z : Sizes) (n : ℕ) where
+  pub ends-not-fixed : z .fixed ≡ false → false ≡ endsIn z n
+  ends-not-fixed e = rw e
+
+  module _ (fixed : z .fixed ≡ true) where
+    pub ends-none : n ≡ 0 → true ≡ endsIn z n
+    ends-none e = rw (fixed, eq-eqb n 0 e)
+
+    module _ (some : n ≡ 0 → ⊥) where
+      ends-last : leb (z .last + (n - 1) * z .step) maxPosition ≡ endsIn z n
+      ends-last = rw (fixed, ne-eqb n 0 some)
+
+      pub ends-above : maxPosition < z .last → false ≡ endsIn z n
+      ends-above h = let l : maxPosition < z .last + (n - 1) * z .step = omega arith in sym (lt-leb _ maxPosition l) ∙ ends-last
+
+      pub ends-room : {b : Bool} → z .last ≤ maxPosition → b ≡ ltb (maxPosition - z .last) ((n - 1) * z .step) → not b ≡ endsIn z n
+      ends-room h e =
+          ap not e
+          ∙ ⊎-elim
+          (λ (l : (n - 1) * z .step ≤ maxPosition - z .last). ap not (le-ltb (maxPosition - z .last) _ l) ∙ sym (le-leb (z .last + (n - 1) * z .step) maxPosition (omega arith)))
+          (λ (l : maxPosition - z .last < (n - 1) * z .step). ap not (lt-ltb (maxPosition - z .last) _ l) ∙ sym (lt-leb (z .last + (n - 1) * z .step) maxPosition (omega arith)))
+          (order ((n - 1) * z .step) (maxPosition - z .last))
+          ∙ ends-last
+
+-- ---- the largest
+module _ (p : ℕ → Bool) (g : ℕ → ℕ) where
+  pub largest-above : (n i : ℕ) → i < n → p i ≡ true → g i ≤ largest p g n
+  unfolding largest
+  largest-above zero i l e = absurd (not-suc-le-zero l)
+  largest-above (suc n) i l e =
+      ⊎-elim
+      (λ (q : i ≡ n). let f : p n ≡ true = ap p (sym q) ∙ e in rw (f, q) (le-max-right (largest p g n) (g n)))
+      (λ (q : i < n). kept (p n) (largest-above n i q e))
+      (eq-or-lt-of-le (le-of-suc-le-suc l))
+    where
+      kept : (b : Bool) → g i ≤ largest p g n → g i ≤ cond b (max (largest p g n) (g n)) (largest p g n)
+      kept true h = le-trans h (le-max-left (largest p g n) (g n))
+      kept false h = h
+
+  pub largest-below : (x n : ℕ) → ((i : ℕ) → i < n → p i ≡ true → g i ≤ x) → largest p g n ≤ x
+  unfolding largest
+  largest-below x zero h = omega arith
+  largest-below x (suc n) h = both-below (p n) refl (largest-below x n (λ i l. h i (omega arith)))
+    where
+      both-below : (b : Bool) → p n ≡ b → largest p g n ≤ x → cond b (max (largest p g n) (g n)) (largest p g n) ≤ x
+      both-below true e l = max-le l (h n (omega arith) e)
+      both-below false e l = l

@@ -1,5 +1,6 @@
 use Rattle.header.proofs.Laws.Header.{answer-stop, answer-got, judged-model, judged-sizes, judged-count, judged-ends, judged-got}
 use Rattle.header.proofs.Laws.Model.{model-has-ids}
+use Rattle.header.proofs.Laws.Count.{ends-by}
 use Rattle.header.specs.Count.{ofCounted}
 use borrow.Author.Tests.{not-true, not-false}
 use mathlib.Core.Path.{sym, ap, _∙_}
@@ -39,7 +40,7 @@ enum-known-n : tie.Need-enum-known-n
 enum-known-n c = search needs
 
 ends-hold-requires : tie.Need-ends-hold-requires
-ends-hold-requires c κs = let m = c .before .before .before .before .before .before .measure in let h = not-false (m .result .hold) (c .before .before .before .before .if2 .left) in (within-shaped (c .before .before .before .before .before .before .before .before .before .before .pre), model-has-ids _ _ (sym (c .before .before .before .before .before .before .before .before .model-holds .ensures) ∙ not-false _ (c .before .before .before .before .before .before .before .if1 .left)), sym (m .ensures .0) ∙ h, m .ensures .1 h)
+ends-hold-requires c κs = search needs
 
 refused-requires-4 : tie.Need-refused-requires-4
 refused-requires-4 c κs = search needs
@@ -47,9 +48,11 @@ refused-requires-4 c κs = search needs
 returns-3 : tie.Need-returns-3
 returns-3 c =
     let m = c .before .before .before .before .before .before .before .before .before .measure in
+    let held = not-false (m .result .hold) (c .before .before .before .before .before .before .before .if2 .left) in
+    let sizes = sym (m .ensures .0) ∙ held in
     answer-stop (c .refused4 .ensures)
-    (judged-ends _ _ _ (sym (c .before .before .before .before .before .before .before .before .before .before .before .model-holds .ensures) ∙ not-false _ (c .before .before .before .before .before .before .before .before .before .before .if1 .left)) (sym (m .ensures .0) ∙ not-false (m .result .hold) (c .before .before .before .before .before .before .before .if2 .left))
-    (ap ofCounted (sym (c .before .before .before .before .n .given .1)) ∙ c .before .before .before .before .before .before .record-count .ensures) (sym (c .before .before .ends-hold .ensures) ∙ not-true _ (c .before .if3 .taken)))
+    (judged-ends _ _ _ (sym (c .before .before .before .before .before .before .before .before .before .before .before .model-holds .ensures) ∙ not-false _ (c .before .before .before .before .before .before .before .before .before .before .if1 .left)) sizes
+    (ap ofCounted (sym (c .before .before .before .before .n .given .1)) ∙ c .before .before .before .before .before .before .record-count .ensures) (sym (ends-by _ _ sizes (m .ensures .1 held) (c .before .before .ends-hold .ensures)) ∙ not-true _ (c .before .if3 .taken)))
 
 returns-4 : tie.Need-returns-4
 returns-4 c =
@@ -61,9 +64,11 @@ returns-4 c =
 returns-5 : tie.Need-returns-5
 returns-5 c =
     let m = c .before .before .before .before .before .before .before .before .measure in
+    let held = not-false (m .result .hold) (c .before .before .before .before .before .before .if2 .left) in
+    let sizes = sym (m .ensures .0) ∙ held in
     answer-got
-    (judged-got _ _ _ (sym (c .before .before .before .before .before .before .before .before .before .before .model-holds .ensures) ∙ not-false _ (c .before .before .before .before .before .before .before .before .before .if1 .left)) (sym (m .ensures .0) ∙ not-false (m .result .hold) (c .before .before .before .before .before .before .if2 .left))
-    (ap ofCounted (sym (c .before .before .before .n .given .1)) ∙ c .before .before .before .before .before .record-count .ensures) (sym (c .before .ends-hold .ensures) ∙ not-false _ (c .if3 .left)))
+    (judged-got _ _ _ (sym (c .before .before .before .before .before .before .before .before .before .before .model-holds .ensures) ∙ not-false _ (c .before .before .before .before .before .before .before .before .before .if1 .left)) sizes
+    (ap ofCounted (sym (c .before .before .before .n .given .1)) ∙ c .before .before .before .before .before .record-count .ensures) (sym (ends-by _ _ sizes (m .ensures .1 held) (c .before .ends-hold .ensures)) ∙ not-false _ (c .if3 .left)))
 
 pub judged-spec : {M : Type 1} → statement M
 judged-spec =

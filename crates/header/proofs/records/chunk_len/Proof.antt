@@ -1,9 +1,9 @@
 use borrow.Author.Needs.{needs}
 use Rattle.header.proofs.Laws.Records.{outer-within, firstLengths, lengths-none, lengths-more, lengths-all}
 use Rattle.header.specs.Records.{outer, capped}
-use mathlib.Core.Path.{_≡_, ap, _∙_}
+use mathlib.Core.Path.{_≡_, _∙_}
 use native.Mathlib.Omega.{arith}
-use Prim.Native.Nat.{ℕ, _-_, _≤_}
+use Prim.Native.Nat.{_-_, _≤_}
 use Rattle.header.proofs.records.chunk_len.Statement.{statement}
 use Rattle.header.proofs.records.chunk_len.Tie as tie
 
@@ -24,8 +24,7 @@ loop-holds c =
     let a = c .before .args in
     let o = outer-within (a .t1) (a .t2) in
     let e = c .outer .ensures in
-    let z : 0 ≡ c .outer .result - outer (a .t1) (a .t2) = omega arith in
-    (omega arith, omega arith, lengths-none (a .t1) (a .t2) ∙ ap (λ (n : ℕ). capped (firstLengths (a .t1) (a .t2) n)) z)
+    (omega arith, omega arith, lengths-none (a .t1) (a .t2) (omega arith))
 
 mul-id : tie.Need-mul-id Inv-loop μ-loop
 mul-id c = search needs

@@ -1,101 +1,161 @@
 use Prim.Native.Nat.{ℕ, _-_, _≤_, _<_, _+_}
 use native.Mathlib.Omega.{arith}
-use mathlib.Core.Path.{_≡_, ap, subst, _∙_}
+use mathlib.Core.Path.{_≡_, refl, sym, ap, subst, _∙_}
+use mathlib.Core.Logic.{⊎-elim}
 use mathlib.Core.Bool.{true}
 use borrow.Author.Count.{below-none, below-more}
-use Rattle.header.specs.Records.{maxChunk, placed, total, recordSize}
-use Rattle.header.proofs.Laws.Records.{part, ids-below, capped-is, capped-above, bytes-over, padded-are, padded-in, placed-if, sizes-begin, sizes-chunk, sizes-sum, sizes-all, size-is, part-of, sum-more, never, total-none}
-use borrow.Author.Needs.{needs}
+use borrow.Author.Tests.{not-true, not-false}
 use Rattle.grammar.specs.Tables.{varAt}
+use Rattle.header.specs.declared.records.Sizes.{Sizes}
+use Rattle.header.specs.Records.{maxChunk, placed, capped, outer, chunk}
+use Rattle.header.proofs.Laws.Records.{seen, firstLengths, ids-below, only-first, seen-first, seen-more, seen-all, lengths-none, lengths-first, lengths-more, lengths-all, outer-below, capped-most, padded-is, sizes-all, never}
+use Rattle.header.proofs.Laws.Count.{sizesUpto, upto-none, upto-all, upto-turn, upto-broken}
+use borrow.Author.Needs.{needs}
 use Rattle.header.proofs.records.measure.Statement.{statement}
 use Rattle.header.proofs.records.measure.Tie as tie
 
+abbrev Inv-loop2 : tie.InvT-loop2
+Inv-loop2 t dims vars z i v records₀ len₀ k₀ records len k = (k ≤ v .rank) × (v .rank ≤ 8) × (records ≡ seen (t .dims) v k) × (len ≡ capped (firstLengths (t .dims) v (k - outer (t .dims) v)))
+
+abbrev μ-loop2 : tie.MeasureT-loop2
+μ-loop2 t dims vars z i v records₀ len₀ k₀ records len k = v .rank - k
+
 abbrev Inv-loop : tie.InvT-loop
-Inv-loop t broken dims vars step₀ i₀ step i = (i ≤ t .nvars) × ((k : ℕ) → k < i → placed t k ≡ true) × (step ≡ total (part t) i) × (step ≤ maxChunk)
+Inv-loop t dims vars z₀ i₀ z i = (i ≤ t .nvars) × ((k : ℕ) → k < i → placed t k ≡ true) × (z ≡ sizesUpto t i) × (z .step ≤ maxChunk)
 
 abbrev μ-loop : tie.MeasureT-loop
-μ-loop t broken dims vars step₀ i₀ step i = t .nvars - i
+μ-loop t dims vars z₀ i₀ z i = t .nvars - i
 
-loop-holds : tie.Need-loop-holds Inv-loop μ-loop
-loop-holds c = (omega arith, below-none _, total-none _, omega arith)
+loop-holds : tie.Need-loop-holds Inv-loop2 μ-loop2 Inv-loop μ-loop
+loop-holds c = (omega arith, below-none _, upto-none (c .before .before .args .t), omega arith)
 
-mul-v : tie.Need-mul-v Inv-loop μ-loop
+mul-v : tie.Need-mul-v Inv-loop2 μ-loop2 Inv-loop μ-loop
 mul-v c = search needs
 
-array-copy-out-v : tie.Need-array-copy-out-v Inv-loop μ-loop
+array-copy-out-v : tie.Need-array-copy-out-v Inv-loop2 μ-loop2 Inv-loop μ-loop
 array-copy-out-v c = search needs
 
-returns : tie.Need-returns Inv-loop μ-loop
-returns c = (sizes-begin _ _ (c .before .before .before .if1 .taken) (c .if2 .taken), never _)
+loop2-holds : tie.Need-loop2-holds Inv-loop2 μ-loop2 Inv-loop μ-loop
+loop2-holds c =
+    let t = c .before .before .before .before .before .before .args .t in
+    let v = varAt t (c .before .before .before .loop .i) in
+    let z : 0 - outer (t .dims) v ≡ 0 = omega arith in
+    (omega arith, c .before .before .before .before .before .before .pre .0 .rows _ (c .before .if1 .taken) .rank, refl, lengths-none (t .dims) v z)
 
-chunk-bytes-requires : tie.Need-chunk-bytes-requires Inv-loop μ-loop
-chunk-bytes-requires c κs = let p = c .before .before .before .before .before .before .before .before .pre in let r = p .0 .rows _ (c .before .before .before .if1 .taken) in (r .rank, ids-below _ (p .1) _ (c .before .before .before .if1 .taken) (p .0 .dims), r .low, r .high)
+mul-id : tie.Need-mul-id Inv-loop2 μ-loop2 Inv-loop μ-loop
+mul-id c = search needs
 
-returns-2 : tie.Need-returns-2 Inv-loop μ-loop
-returns-2 c = (sizes-chunk _ _ (c .before .before .before .before .before .if1 .taken) (bytes-over _ _ (capped-above _ (c .before .chunk-bytes .ensures) (c .if3 .taken))), never _)
+element-copy-out-id : tie.Need-element-copy-out-id Inv-loop2 μ-loop2 Inv-loop μ-loop
+element-copy-out-id c = search needs
 
-is-record-requires : tie.Need-is-record-requires Inv-loop μ-loop
-is-record-requires c κs = let p = c .before .before .before .before .before .before .before .before .before .before .pre in let r = p .0 .rows _ (c .before .before .before .before .before .if1 .taken) in (r .rank, ids-below _ (p .1) _ (c .before .before .before .before .before .if1 .taken) (p .0 .dims))
+cast-id : tie.Need-cast-id Inv-loop2 μ-loop2 Inv-loop μ-loop
+cast-id c = let p = c .before .before .before .before .before .before .before .before .before .pre in omega (arith, ids-below _ (p .1) _ (c .before .before .before .before .if1 .taken) (p .0 .dims) _ (c .before .loop2-test .taken))
 
-record-part-requires : tie.Need-record-part-requires Inv-loop μ-loop
-record-part-requires c κs = search needs
+mul-d : tie.Need-mul-d Inv-loop2 μ-loop2 Inv-loop μ-loop
+mul-d c = let p = c .before .before .before .before .before .before .before .before .before .pre in omega (arith, ids-below _ (p .1) _ (c .before .before .before .before .if1 .taken) (p .0 .dims) _ (c .before .loop2-test .taken))
 
-add-step : tie.Need-add-step Inv-loop μ-loop
-add-step c = omega (arith, c .record-part .ensures .1)
+array-copy-out-d : tie.Need-array-copy-out-d Inv-loop2 μ-loop2 Inv-loop μ-loop
+array-copy-out-d c = let p = c .before .before .before .before .before .before .before .before .before .pre in ids-below _ (p .1) _ (c .before .before .before .before .if1 .taken) (p .0 .dims) _ (c .before .loop2-test .taken)
 
-returns-3 : tie.Need-returns-3 Inv-loop μ-loop
-returns-3 c =
-    let t = c .before .before .before .before .before .before .before .before .before .before .before .before .before .args .t in
-    let l = c .before .before .before .before .before .before .before .before .before .before .loop in
-    let p = part-of t (l .i) (c .before .record-part .ensures .0) (c .before .before .is-record .ensures) (capped-is _ (c .before .before .before .before .chunk-bytes .ensures) (c .before .before .before .if3 .left)) in
-    let s = sum-more t (l .i) (l .inv .2) p in
-    (sizes-sum t (l .i + 1) (omega arith) (subst (λ (n : ℕ). maxChunk < n) s (c .if4 .taken)), never _)
+times-requires : tie.Need-times-requires Inv-loop2 μ-loop2 Inv-loop μ-loop
+times-requires c κs = search needs
 
-add-i : tie.Need-add-i Inv-loop μ-loop
+add-k : tie.Need-add-k Inv-loop2 μ-loop2 Inv-loop μ-loop
+add-k c = search needs
+
+loop2-less : tie.Need-loop2-less Inv-loop2 μ-loop2 Inv-loop μ-loop
+loop2-less c = search needs
+
+loop2-again : tie.Need-loop2-again Inv-loop2 μ-loop2 Inv-loop μ-loop
+loop2-again c =
+    let t = c .before .before .before .before .before .before .before .before .before .before .before .before .args .t in
+    let i = c .before .before .before .before .before .before .before .before .before .loop .i in
+    let v = varAt t i in
+    let l = c .before .before .before .before .before .loop2 in
+    let inside = c .before .before .before .before .loop2-test .taken in
+    let walked : (c .if2 .records ≡ seen (t .dims) v (l .k + 1)) × (c .if2 .len ≡ capped (firstLengths (t .dims) v (l .k + 1 - outer (t .dims) v))) =
+    ⊎-elim
+    (λ w.
+    let first = only-first t (c .before .before .before .before .before .before .before .before .before .before .before .before .pre .1) i (c .before .before .before .before .before .before .before .if1 .taken) (l .k) inside (w .0 .taken) in
+    (w .1 ∙ seen-first (t .dims) v (l .k) inside first (w .0 .taken), w .2 ∙ l .inv .3 ∙ ap capped (lengths-first (t .dims) v (l .k) inside first (w .0 .taken))))
+    (λ w.
+    (w .2 ∙ l .inv .2 ∙ seen-more (t .dims) v (l .k) (w .0 .left), w .3 ∙ lengths-more (t .dims) v (l .k) (outer-below (t .dims) v (l .k) (w .0 .left)) (λ x e. w .1 .ensures x (l .inv .3 ∙ e))))
+    (c .if2 .came) in
+    (omega arith, l .inv .1, walked .0, walked .1)
+
+padded-bytes-requires : tie.Need-padded-bytes-requires Inv-loop2 μ-loop2 Inv-loop μ-loop
+padded-bytes-requires c κs =
+    let t = c .before .before .before .before .before .before .before .before .args .t in
+    let v = varAt t (c .before .before .before .before .before .loop .i) in
+    let l = c .before .loop2 in
+    let r = c .before .before .before .before .before .before .before .before .pre .0 .rows _ (c .before .before .before .if1 .taken) in
+    (omega (arith, l .inv .3, capped-most (firstLengths (t .dims) v (l .k - outer (t .dims) v))), r .low, r .high)
+
+added-requires : tie.Need-added-requires Inv-loop2 μ-loop2 Inv-loop μ-loop
+added-requires c κs = c .before .before .before .before .before .before .loop .inv .3
+
+returns : tie.Need-returns Inv-loop2 μ-loop2 Inv-loop μ-loop
+returns c =
+    let t = c .before .before .before .before .before .before .before .before .before .before .before .before .args .t in
+    let i = c .before .before .before .before .before .before .before .before .before .loop .i in
+    let l = c .before .before .before .before .before .loop2 in
+    let all : l .k ≡ varAt t i .rank = omega arith in
+    let is = l .inv .2 ∙ seen-all (t .dims) (varAt t i) all in
+    let alike = c .before .before .before .padded-bytes .ensures (chunk (t .dims) (varAt t i)) (l .inv .3 ∙ lengths-all (t .dims) (varAt t i) all) ∙ padded-is (t .dims) (varAt t i) in
+    let a = c .before .before .added in
+    let broken = not-true (a .result .hold) (c .if3 .taken) in
+    (broken ∙ upto-broken t i _ (c .before .before .before .before .before .before .before .if1 .taken) (c .before .before .before .before .before .before .before .before .before .loop .inv .2) is alike (a .ensures .0) (a .ensures .1) broken, λ e. never _ (sym broken ∙ e))
+
+add-i : tie.Need-add-i Inv-loop2 μ-loop2 Inv-loop μ-loop
 add-i c = search needs
 
-loop-less : tie.Need-loop-less Inv-loop μ-loop
+loop-less : tie.Need-loop-less Inv-loop2 μ-loop2 Inv-loop μ-loop
 loop-less c = search needs
 
-loop-again : tie.Need-loop-again Inv-loop μ-loop
+loop-again : tie.Need-loop-again Inv-loop2 μ-loop2 Inv-loop μ-loop
 loop-again c =
-    let t = c .before .before .before .before .before .before .before .before .before .before .before .before .before .args .t in
-    let l = c .before .before .before .before .before .before .before .before .before .before .loop in
-    let bytes = capped-is _ (c .before .before .before .before .chunk-bytes .ensures) (c .before .before .before .if3 .left) in
-    let p = part-of t (l .i) (c .before .record-part .ensures .0) (c .before .before .is-record .ensures) bytes in
-    let padded = padded-are (t .dims) (varAt t (l .i)) bytes in (
-      omega arith,
-      below-more _ _ (l .inv .1)
-          (placed-if t (l .i) (c .before .before .before .before .before .if2 .left) (subst (λ (n : ℕ). n ≤ maxChunk) padded (padded-in _ (c .before .before .before .if3 .left)))),
-      sum-more t (l .i) (l .inv .2) p,
-      c .if4 .left,
-    )
+    let t = c .before .before .before .before .before .before .before .before .before .before .before .before .args .t in
+    let i = c .before .before .before .before .before .before .before .before .before .loop .i in
+    let l = c .before .before .before .before .before .loop2 in
+    let all : l .k ≡ varAt t i .rank = omega arith in
+    let is = l .inv .2 ∙ seen-all (t .dims) (varAt t i) all in
+    let alike = c .before .before .before .padded-bytes .ensures (chunk (t .dims) (varAt t i)) (l .inv .3 ∙ lengths-all (t .dims) (varAt t i) all) ∙ padded-is (t .dims) (varAt t i) in
+    let a = c .before .before .added in
+    let more = upto-turn t i _ (c .before .before .before .before .before .before .before .if1 .taken) (c .before .before .before .before .before .before .before .before .before .loop .inv .2) is alike (a .ensures .0) (a .ensures .1) (not-false (a .result .hold) (c .if3 .left)) in
+    (omega arith, below-more _ _ (c .before .before .before .before .before .before .before .before .before .loop .inv .1) (more .0), more .1, more .2)
 
-returns-4 : tie.Need-returns-4 Inv-loop μ-loop
-returns-4 c =
+returns-2 : tie.Need-returns-2 Inv-loop2 μ-loop2 Inv-loop μ-loop
+returns-2 c =
     let t = c .before .before .before .before .before .args .t in
     let l = c .before .before .loop in
-    let e : l .i ≡ t .nvars = omega arith in
-    let s : l .step ≡ recordSize t = l .inv .2 ∙ ap (total (part t)) e ∙ size-is t in
-    (sizes-all t (λ k h. l .inv .1 k (omega arith)) (subst (λ (n : ℕ). n ≤ maxChunk) s (l .inv .3)), λ _. s)
+    let e = l .inv .2 ∙ upto-all t (omega arith) in
+    (ap (λ (z : Sizes). z .hold) e ∙ sizes-all t (λ k h. l .inv .1 k (omega arith)) (subst (λ (z : Sizes). z .step ≤ maxChunk) e (l .inv .3)), λ _. e)
 
 pub measure-spec : {M : Type 1} → statement M
 measure-spec =
     tie.close
     (tie.spec
+    Inv-loop2
+    μ-loop2
     Inv-loop
     μ-loop
     loop-holds
     mul-v
     array-copy-out-v
+    loop2-holds
+    mul-id
+    element-copy-out-id
+    cast-id
+    mul-d
+    array-copy-out-d
+    times-requires
+    add-k
+    loop2-less
+    loop2-again
+    padded-bytes-requires
+    added-requires
     returns
-    chunk-bytes-requires
-    returns-2
-    is-record-requires
-    record-part-requires
-    add-step
-    returns-3
     add-i
     loop-less
     loop-again
-    returns-4)
+    returns-2)
