@@ -167,14 +167,14 @@ pub fn measure(t: Tables) -> Sizes
         let mut records = false;
         let mut len = 1;
         let mut k = 0;
-        while k < v.rank {
+        while k < v.rank as usize {
             let id = v.ids[k] as usize;
             let d = dims[id];
             // where the ids hold, the unlimited dimension stands only first
             if d.length == 0 {
                 records = true;
             } else {
-                len = times(len, d.length);
+                len = times(len, d.length as u64);
             }
             k += 1;
         }

@@ -93,7 +93,7 @@ fn tables_hold(t: Tables) -> Tested
     let step = z.step;
     let n = t.count;
     Tested {
-        hold: ends_hold(t, step, n),
+        hold: ends_hold(z, n),
         step,
     }
 }

@@ -292,11 +292,16 @@ module _ (t : Tables) where
   unfolding sizesHold
   sizes-all h l = sym (rw (all-hold (placed t) (t .nvars) h, le-leb (recordSize t) maxChunk l))
 
-  pub begin-in : sizesHold t ≡ true → (i : ℕ) → i < t .nvars → varAt t i .begin ≤ maxPosition
-  unfolding sizesHold
-  begin-in sizes i inside =
-      let p = holds-at (placed t) (t .nvars) i (both (allBelow (t .nvars) (placed t)) (leb (recordSize t) maxChunk) sizes .0) inside in
-      leb-true _ _ (both (leb (varAt t i .begin) maxPosition) (leb (paddedBytes (t .dims) (varAt t i)) maxChunk) p .0)
+  module _ (sizes : sizesHold t ≡ true) (i : ℕ) (inside : i < t .nvars) where
+    here : (leb (varAt t i .begin) maxPosition ≡ true) × (leb (paddedBytes (t .dims) (varAt t i)) maxChunk ≡ true)
+    unfolding sizesHold
+    here = both _ _ (holds-at (placed t) (t .nvars) i (both (allBelow (t .nvars) (placed t)) (leb (recordSize t) maxChunk) sizes .0) inside)
+
+    pub begin-in : varAt t i .begin ≤ maxPosition
+    begin-in = leb-true _ _ (here .0)
+
+    pub chunk-in : paddedBytes (t .dims) (varAt t i) ≤ maxChunk
+    chunk-in = leb-true _ _ (here .1)
 
 -- whether steps take more than the room, by a division
 pub passes-none : (room n m : ℕ) → m ≡ 0 → false ≡ ltb room (n * m)

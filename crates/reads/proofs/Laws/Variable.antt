@@ -1,7 +1,7 @@
 -- Laws of the variable that a read asks for.
 use Prim.Native.Nat.{ℕ, _+_, _-_, _*_, _≤_, _<_}
 use native.Mathlib.Omega.{arith}
-use native.Mathlib.Nat.{le-trans, le-mul-of-pos-right}
+use native.Mathlib.Nat.{le-mul-of-pos-right}
 use mathlib.Core.Path.{_≡_, refl, sym, ap, _∙_}
 use mathlib.Core.Bool.{Bool, true, false, cond}
 use lib.Dec.{leb}
@@ -16,8 +16,8 @@ use Rattle.grammar.specs.Within.{Shaped, RowShaped}
 use Rattle.grammar.specs.declared.tables.Var.{Var}
 use Rattle.grammar.specs.declared.tables.Tables.{Tables}
 use Rattle.header.specs.Model.{idsHold}
-use Rattle.header.specs.Records.{isRecord, chunk, chunkBytes, recordSize, capped, maxChunk, sizesHold, endsHold}
-use Rattle.header.proofs.Laws.Records.{capped-in, bytes-in, chunk-in, size-pos}
+use Rattle.header.specs.Records.{isRecord, chunk, chunkBytes, paddedBytes, recordSize, capped, maxChunk, sizesHold, endsHold}
+use Rattle.header.proofs.Laws.Records.{capped-in, chunk-in, size-pos}
 use Rattle.reads.specs.Variable.{rowHolds, shapeHolds, tablesHold, variable, sought, soughtAs}
 use Rattle.reads.specs.declared.variable.Variable.{Variable}
 
@@ -106,11 +106,11 @@ module _ (t : Tables) where
   -- what a variable of tables that hold comes to
   module _ (h : Holds) (i : ℕ) (inside : i < t .nvars) where
     pub chunk-small : chunk (t .dims) (varAt t i) ≤ maxChunk
-    unfolding chunkBytes
+    unfolding chunkBytes paddedBytes
     chunk-small =
-        let b = bytes-in (t .dims) (varAt t i) (chunk-in t (h .sizes) i inside) in
+        let p = chunk-in t (h .sizes) i inside in
         let w = le-mul-of-pos-right (chunk (t .dims) (varAt t i)) (size-pos (typeOf (varAt t i .code))) in
-        le-trans w b
+        omega arith
 
 -- the answers of the function that finds a variable
 module _ (t : Tables) (i : ℕ) where

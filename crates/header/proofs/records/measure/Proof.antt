@@ -42,6 +42,9 @@ loop2-holds c =
     let z : 0 - outer (t .dims) v ≡ 0 = omega arith in
     (omega arith, c .before .before .before .before .before .before .pre .0 .rows _ (c .before .if1 .taken) .rank, refl, lengths-none (t .dims) v z)
 
+cast-loop2 : tie.Need-cast-loop2 Inv-loop2 μ-loop2 Inv-loop μ-loop
+cast-loop2 c = search needs
+
 mul-id : tie.Need-mul-id Inv-loop2 μ-loop2 Inv-loop μ-loop
 mul-id c = search needs
 
@@ -56,6 +59,9 @@ mul-d c = let p = c .before .before .before .before .before .before .before .bef
 
 array-copy-out-d : tie.Need-array-copy-out-d Inv-loop2 μ-loop2 Inv-loop μ-loop
 array-copy-out-d c = let p = c .before .before .before .before .before .before .before .before .before .pre in ids-below _ (p .1) _ (c .before .before .before .before .if1 .taken) (p .0 .dims) _ (c .before .loop2-test .taken)
+
+cast-times : tie.Need-cast-times Inv-loop2 μ-loop2 Inv-loop μ-loop
+cast-times c = search needs
 
 times-requires : tie.Need-times-requires Inv-loop2 μ-loop2 Inv-loop μ-loop
 times-requires c κs = search needs
@@ -79,7 +85,7 @@ loop2-again c =
     let first = only-first t (c .before .before .before .before .before .before .before .before .before .before .before .before .pre .1) i (c .before .before .before .before .before .before .before .if1 .taken) (l .k) inside (w .0 .taken) in
     (w .1 ∙ seen-first (t .dims) v (l .k) inside first (w .0 .taken), w .2 ∙ l .inv .3 ∙ ap capped (lengths-first (t .dims) v (l .k) inside first (w .0 .taken))))
     (λ w.
-    (w .2 ∙ l .inv .2 ∙ seen-more (t .dims) v (l .k) (w .0 .left), w .3 ∙ lengths-more (t .dims) v (l .k) (outer-below (t .dims) v (l .k) (w .0 .left)) (λ x e. w .1 .ensures x (l .inv .3 ∙ e))))
+    (w .3 ∙ l .inv .2 ∙ seen-more (t .dims) v (l .k) (w .0 .left), w .4 ∙ lengths-more (t .dims) v (l .k) (outer-below (t .dims) v (l .k) (w .0 .left)) (λ x e. w .2 .ensures x (l .inv .3 ∙ e))))
     (c .if2 .came) in
     (omega arith, l .inv .1, walked .0, walked .1)
 
@@ -143,11 +149,13 @@ measure-spec =
     mul-v
     array-copy-out-v
     loop2-holds
+    cast-loop2
     mul-id
     element-copy-out-id
     cast-id
     mul-d
     array-copy-out-d
+    cast-times
     times-requires
     add-k
     loop2-less

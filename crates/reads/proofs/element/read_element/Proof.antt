@@ -6,33 +6,23 @@ use Rattle.reads.proofs.Laws.Element.{answer-stop, answer-got}
 use borrow.Author.Needs.{needs}
 use Rattle.reads.proofs.element.read_element.Statement.{statement}
 use Rattle.reads.proofs.element.read_element.Tie as tie
-use Rattle.reads.proofs.element.read_element.Reads as reads
-use Rattle.reads.proofs.element.read_element.Lts as lts
-use Rattle.reads.proofs.element.element_of.Reads as element-of-reads
-use Rattle.reads.proofs.variable.seek.Reads as seek-reads
 
--- src/element.rt:85:11
 seek-requires : tie.Need-seek-requires
 seek-requires c κs = search needs
 
--- src/element.rt:86:25
 enum-known-k : tie.Need-enum-known-k
 enum-known-k c = search needs
 
--- src/element.rt:87:21
 enum-known-v : tie.Need-enum-known-v
 enum-known-v c = search needs
 
--- src/element.rt:87:27
 element-of-requires : tie.Need-element-of-requires
 element-of-requires c κs = found _ _ (ap ofSought (sym (c .before .v .given .1)) ∙ c .before .before .before .seek .ensures)
 
--- src/element.rt:82:1
 returns : tie.Need-returns
 unfolding elementRead
 returns c = answer-stop _ _ _ _ _ (ap ofSought (sym (c .before .k .given .1)) ∙ c .before .before .before .seek .ensures)
 
--- src/element.rt:82:1
 returns-2 : tie.Need-returns-2
 unfolding elementRead
 returns-2 c = answer-got _ _ _ _ _ (ap ofSought (sym (c .before .before .v .given .1)) ∙ c .before .before .before .before .seek .ensures) (c .element-of .ensures)

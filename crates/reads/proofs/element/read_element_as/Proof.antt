@@ -6,33 +6,23 @@ use Rattle.reads.proofs.Laws.Element.{answer-stop, answer-got}
 use borrow.Author.Needs.{needs}
 use Rattle.reads.proofs.element.read_element_as.Statement.{statement}
 use Rattle.reads.proofs.element.read_element_as.Tie as tie
-use Rattle.reads.proofs.element.read_element_as.Reads as reads
-use Rattle.reads.proofs.element.read_element_as.Lts as lts
-use Rattle.reads.proofs.element.element_of.Reads as element-of-reads
-use Rattle.reads.proofs.variable.seek_as.Reads as seek-as-reads
 
--- src/element.rt:95:11
 seek-as-requires : tie.Need-seek-as-requires
 seek-as-requires c κs = search needs
 
--- src/element.rt:96:25
 enum-known-k : tie.Need-enum-known-k
 enum-known-k c = search needs
 
--- src/element.rt:97:21
 enum-known-v : tie.Need-enum-known-v
 enum-known-v c = search needs
 
--- src/element.rt:97:27
 element-of-requires : tie.Need-element-of-requires
 element-of-requires c κs = bounded _ _ _ (ap ofSought (sym (c .before .v .given .1)) ∙ c .before .before .before .seek-as .ensures)
 
--- src/element.rt:92:1
 returns : tie.Need-returns
 unfolding elementReadAs
 returns c = answer-stop _ _ _ _ _ (ap ofSought (sym (c .before .k .given .1)) ∙ c .before .before .before .seek-as .ensures)
 
--- src/element.rt:92:1
 returns-2 : tie.Need-returns-2
 unfolding elementReadAs
 returns-2 c = answer-got _ _ _ _ _ (ap ofSought (sym (c .before .before .v .given .1)) ∙ c .before .before .before .before .seek-as .ensures) (c .element-of .ensures)

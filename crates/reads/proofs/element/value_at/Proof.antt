@@ -8,102 +8,70 @@ use Rattle.reads.proofs.Laws.Element.{byte-at, byte-in, value-is, room-
 use borrow.Author.Needs.{needs}
 use Rattle.reads.proofs.element.value_at.Statement.{statement}
 use Rattle.reads.proofs.element.value_at.Tie as tie
-use Rattle.reads.proofs.element.value_at.Reads as reads
-use Rattle.reads.proofs.element.value_at.Lts as lts
-use Rattle.bigendian.proofs.number.be32.Reads as be32-reads
-use Rattle.decode.proofs.pattern.i16_of.Reads as i16-of-reads
-use Rattle.decode.proofs.pattern.i32_of.Reads as i32-of-reads
-use Rattle.decode.proofs.pattern.i8_of.Reads as i8-of-reads
-use Rattle.decode.proofs.short.be16.Reads as be16-reads
-use Rattle.items.proofs.types.DataType.of_code.Reads as of-code-reads
-use Rattle.reads.proofs.element.double_at.Reads as double-at-reads
-use Rattle.reads.proofs.element.float_at.Reads as float-at-reads
 
--- src/element.rt:59:11
 of-code-requires : tie.Need-of-code-requires
 of-code-requires c κs = search needs
 
--- src/element.rt:60:43
 enum-told : tie.Need-enum-told
 enum-told c = search needs
 
--- src/element.rt:60:43
 shared-slice-read-i8-of : tie.Need-shared-slice-read-i8-of
 shared-slice-read-i8-of c = byte-in (now (c .before .before .before .before .before .args .s)) (c .before .before .before .before .before .args .at) (c .before .before .before .before .before .args .code) (sym (c .before .before .before .of-code .ensures) ∙ c .before .enum-told .given .1) (lit≤ tt) (c .before .before .before .before .before .pre .0)
 
--- src/element.rt:60:37
 i8-of-requires : tie.Need-i8-of-requires
 i8-of-requires c κs = search needs
 
--- src/element.rt:61:37
 enum-told-2 : tie.Need-enum-told-2
 enum-told-2 c = search needs
 
--- src/element.rt:61:37
 shared-slice-read-t11 : tie.Need-shared-slice-read-t11
 shared-slice-read-t11 c = byte-in (now (c .before .before .before .before .before .args .s)) (c .before .before .before .before .before .args .at) (c .before .before .before .before .before .args .code) (sym (c .before .before .before .of-code .ensures) ∙ c .before .enum-told2 .given .1) (lit≤ tt) (c .before .before .before .before .before .pre .0)
 
--- src/element.rt:62:46
 enum-told-3 : tie.Need-enum-told-3
 enum-told-3 c = search needs
 
--- src/element.rt:62:46
 be16-requires : tie.Need-be16-requires
 be16-requires c κs = room-is (now (c .before .before .before .before .args .s)) (c .before .before .before .before .args .at) (c .before .before .before .before .args .code) (sym (c .before .before .of-code .ensures) ∙ c .enum-told3 .given .1) (c .before .before .before .before .pre .0)
 
--- src/element.rt:62:39
 i16-of-requires : tie.Need-i16-of-requires
 i16-of-requires c κs = search needs
 
--- src/element.rt:63:44
 enum-told-4 : tie.Need-enum-told-4
 enum-told-4 c = search needs
 
--- src/element.rt:63:44
 be32-requires : tie.Need-be32-requires
 be32-requires c κs = room-is (now (c .before .before .before .before .args .s)) (c .before .before .before .before .args .at) (c .before .before .before .before .args .code) (sym (c .before .before .of-code .ensures) ∙ c .enum-told4 .given .1) (c .before .before .before .before .pre .0)
 
--- src/element.rt:63:37
 i32-of-requires : tie.Need-i32-of-requires
 i32-of-requires c κs = search needs
 
--- src/element.rt:64:26
 enum-told-5 : tie.Need-enum-told-5
 enum-told-5 c = search needs
 
--- src/element.rt:64:26
 float-at-requires : tie.Need-float-at-requires
 float-at-requires c κs = room-is (now (c .before .before .before .before .args .s)) (c .before .before .before .before .args .at) (c .before .before .before .before .args .code) (sym (c .before .before .of-code .ensures) ∙ c .enum-told5 .given .1) (c .before .before .before .before .pre .0)
 
--- src/element.rt:65:26
 enum-told-6 : tie.Need-enum-told-6
 enum-told-6 c = search needs
 
--- src/element.rt:65:26
 double-at-requires : tie.Need-double-at-requires
 double-at-requires c κs = room-is (now (c .before .before .before .before .args .s)) (c .before .before .before .before .args .at) (c .before .before .before .before .args .code) (sym (c .before .before .of-code .ensures) ∙ c .enum-told6 .given .1) (c .before .before .before .before .pre .0)
 
--- src/element.rt:55:1
 returns : tie.Need-returns
 returns c = value-is (now (c .before .before .before .before .before .before .args .s)) (c .before .before .before .before .before .before .args .at) (c .before .before .before .before .before .before .args .code) (sym (c .before .before .before .before .of-code .ensures) ∙ c .before .before .enum-told .given .1) (ap Byte (stored w8 (c .i8-of .ok) (c .i8-of .ensures) (byte-at (now (c .before .before .before .before .before .before .args .s)) (c .before .before .before .before .before .before .args .at))))
 
--- src/element.rt:55:1
 returns-2 : tie.Need-returns-2
 returns-2 c = value-is (now (c .before .before .before .before .before .args .s)) (c .before .before .before .before .before .args .at) (c .before .before .before .before .before .args .code) (sym (c .before .before .before .of-code .ensures) ∙ c .before .enum-told2 .given .1) (ap Char (byte-at (now (c .before .before .before .before .before .args .s)) (c .before .before .before .before .before .args .at)))
 
--- src/element.rt:55:1
 returns-3 : tie.Need-returns-3
 returns-3 c = value-is (now (c .before .before .before .before .before .before .args .s)) (c .before .before .before .before .before .before .args .at) (c .before .before .before .before .before .before .args .code) (sym (c .before .before .before .before .of-code .ensures) ∙ c .before .before .enum-told3 .given .1) (ap Short (stored w16 (c .i16-of .ok) (c .i16-of .ensures) (c .before .be16 .ensures)))
 
--- src/element.rt:55:1
 returns-4 : tie.Need-returns-4
 returns-4 c = value-is (now (c .before .before .before .before .before .before .args .s)) (c .before .before .before .before .before .before .args .at) (c .before .before .before .before .before .before .args .code) (sym (c .before .before .before .before .of-code .ensures) ∙ c .before .before .enum-told4 .given .1) (ap Int (stored w32 (c .i32-of .ok) (c .i32-of .ensures) (c .before .be32 .ensures)))
 
--- src/element.rt:55:1
 returns-5 : tie.Need-returns-5
 returns-5 c = value-is (now (c .before .before .before .before .before .args .s)) (c .before .before .before .before .before .args .at) (c .before .before .before .before .before .args .code) (sym (c .before .before .before .of-code .ensures) ∙ c .before .enum-told5 .given .1) (c .float-at .ensures)
 
--- src/element.rt:55:1
 returns-6 : tie.Need-returns-6
 returns-6 c = value-is (now (c .before .before .before .before .before .args .s)) (c .before .before .before .before .before .args .at) (c .before .before .before .before .before .args .code) (sym (c .before .before .before .of-code .ensures) ∙ c .before .enum-told6 .given .1) (c .double-at .ensures)
 

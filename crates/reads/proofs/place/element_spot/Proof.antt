@@ -5,47 +5,34 @@ use Rattle.reads.proofs.Laws.Values.{element-in, held, spot-record, spo
 use borrow.Author.Needs.{needs}
 use Rattle.reads.proofs.place.element_spot.Statement.{statement}
 use Rattle.reads.proofs.place.element_spot.Tie as tie
-use Rattle.reads.proofs.place.element_spot.Reads as reads
-use Rattle.reads.proofs.place.element_spot.Lts as lts
-use Rattle.reads.proofs.place.holds.Reads as holds-reads
 
--- src/place.rt:61:9
 returns : tie.Need-returns
 returns c = spot-record _ _ _ _ _ (c .if1 .taken)
 
--- src/place.rt:64:9
 returns-2 : tie.Need-returns-2
 returns-2 c = spot-element _ _ _ _ _ (c .before .before .if1 .left) (c .if2 .taken)
 
--- src/place.rt:66:24
 mul-at : tie.Need-mul-at
 mul-at c = omega (arith, c .before .before .before .before .before .pre .ends _ (c .before .before .before .if1 .left))
 
--- src/place.rt:66:14
 add-at : tie.Need-add-at
 add-at c = omega (arith, c .before .before .before .before .before .before .pre .ends _ (c .before .before .before .before .if1 .left))
 
--- src/place.rt:66:37
 mul-at-2 : tie.Need-mul-at-2
 mul-at-2 c = omega (arith, c .before .before .before .before .before .before .before .pre .ends _ (c .before .before .before .before .before .if1 .left), element-in (c .before .before .before .before .before .before .before .args .v) _ (c .before .before .before .if2 .left))
 
--- src/place.rt:66:14
 add-at-2 : tie.Need-add-at-2
 add-at-2 c = omega (arith, c .before .before .before .before .before .before .before .pre .ends _ (c .before .before .before .before .before .if1 .left), element-in (c .before .before .before .before .before .before .before .args .v) _ (c .before .before .before .if2 .left))
 
--- src/place.rt:67:9
 holds-requires : tie.Need-holds-requires
 holds-requires c κs = search needs
 
--- src/place.rt:68:9
 returns-3 : tie.Need-returns-3
 returns-3 c = spot-window _ _ _ _ _ (c .before .before .before .before .before .before .before .if1 .left) (c .before .before .before .before .before .if2 .left) (sym (not-true _ (c .if3 .taken)) ∙ c .before .holds .ensures)
 
--- src/place.rt:70:15
 sub-t10 : tie.Need-sub-t10
 sub-t10 c = held _ _ _ _ (sym (not-false _ (c .if3 .left)) ∙ c .before .holds .ensures) .0
 
--- src/place.rt:56:1
 returns-4 : tie.Need-returns-4
 returns-4 c = spot-at _ _ _ _ _ (c .before .before .before .before .before .before .before .if1 .left) (c .before .before .before .before .before .if2 .left) (sym (not-false _ (c .if3 .left)) ∙ c .before .holds .ensures)
 

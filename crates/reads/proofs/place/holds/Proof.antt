@@ -2,18 +2,13 @@ use native.Mathlib.Omega.{arith}
 use Rattle.reads.proofs.Laws.Values.{holds-before, holds-past, holds-by}
 use Rattle.reads.proofs.place.holds.Statement.{statement}
 use Rattle.reads.proofs.place.holds.Tie as tie
-use Rattle.reads.proofs.place.holds.Reads as reads
-use Rattle.reads.proofs.place.holds.Lts as lts
 
--- src/place.rt:35:9
 returns : tie.Need-returns
 returns c = holds-before _ _ _ _ (c .if1 .taken)
 
--- src/place.rt:40:9
 returns-2 : tie.Need-returns-2
 returns-2 c = holds-past _ _ _ _ (omega arith) (c .if2 .taken)
 
--- src/place.rt:31:1
 returns-3 : tie.Need-returns-3
 returns-3 c = holds-by _ _ _ _ (omega arith) (c .if2 .left)
 

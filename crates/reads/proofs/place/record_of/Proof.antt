@@ -6,33 +6,23 @@ use Rattle.reads.proofs.Laws.Stretch.{bounded}
 use borrow.Author.Needs.{needs}
 use Rattle.reads.proofs.place.record_of.Statement.{statement}
 use Rattle.reads.proofs.place.record_of.Tie as tie
-use Rattle.reads.proofs.place.record_of.Reads as reads
-use Rattle.reads.proofs.place.record_of.Lts as lts
-use Rattle.reads.proofs.place.record_stretch.Reads as record-stretch-reads
-use Rattle.reads.proofs.variable.seek_as.Reads as seek-as-reads
 
--- src/place.rt:120:11
 seek-as-requires : tie.Need-seek-as-requires
 seek-as-requires c κs = search needs
 
--- src/place.rt:121:25
 enum-known-k : tie.Need-enum-known-k
 enum-known-k c = search needs
 
--- src/place.rt:122:21
 enum-known-v : tie.Need-enum-known-v
 enum-known-v c = search needs
 
--- src/place.rt:122:27
 record-stretch-requires : tie.Need-record-stretch-requires
 record-stretch-requires c κs = bounded _ _ _ (ap ofSought (sym (c .before .v .given .1)) ∙ c .before .before .before .seek-as .ensures)
 
--- src/place.rt:109:1
 returns : tie.Need-returns
 unfolding recordOf
 returns c = by-stop _ (ap ofSought (sym (c .before .k .given .1)) ∙ c .before .before .before .seek-as .ensures)
 
--- src/place.rt:109:1
 returns-2 : tie.Need-returns-2
 unfolding recordOf
 returns-2 c = by-got _ _ (ap ofSought (sym (c .before .before .v .given .1)) ∙ c .before .before .before .before .seek-as .ensures) (c .record-stretch .ensures)

@@ -6,43 +6,31 @@ use Rattle.reads.proofs.Laws.Values.{held}
 use borrow.Author.Needs.{needs}
 use Rattle.reads.proofs.place.record_stretch.Statement.{statement}
 use Rattle.reads.proofs.place.record_stretch.Tie as tie
-use Rattle.reads.proofs.place.record_stretch.Reads as reads
-use Rattle.reads.proofs.place.record_stretch.Lts as lts
-use Rattle.reads.proofs.place.holds.Reads as holds-reads
 
--- src/place.rt:79:9
 returns : tie.Need-returns
 returns c = record-none _ _ _ _ _ (c .if1 .taken)
 
--- src/place.rt:81:24
 mul-at : tie.Need-mul-at
 mul-at c = omega (arith, c .before .before .before .pre .ends _ (c .before .if1 .left))
 
--- src/place.rt:81:14
 add-at : tie.Need-add-at
 add-at c = omega (arith, c .before .before .before .before .pre .ends _ (c .before .before .if1 .left))
 
--- src/place.rt:82:32
 mul-holds : tie.Need-mul-holds
 mul-holds c = omega (arith, c .before .before .before .before .before .pre .ends _ (c .before .before .before .if1 .left))
 
--- src/place.rt:82:9
 holds-requires : tie.Need-holds-requires
 holds-requires c κs = search needs
 
--- src/place.rt:83:9
 returns-2 : tie.Need-returns-2
 returns-2 c = record-window _ _ _ _ _ (c .before .before .before .before .before .if1 .left) (sym (not-true _ (c .if2 .taken)) ∙ c .before .holds .ensures)
 
--- src/place.rt:86:9
 returns-3 : tie.Need-returns-3
 returns-3 c = record-room _ _ _ _ _ (c .before .before .before .before .before .before .before .if1 .left) (sym (not-false _ (c .before .before .if2 .left)) ∙ c .before .before .before .holds .ensures) (c .if3 .taken)
 
--- src/place.rt:89:14
 sub-t8 : tie.Need-sub-t8
 sub-t8 c = held _ _ _ _ (sym (not-false _ (c .before .before .if2 .left)) ∙ c .before .before .before .holds .ensures) .0
 
--- src/place.rt:74:1
 returns-4 : tie.Need-returns-4
 returns-4 c = record-got _ _ _ _ _ (c .before .before .before .before .before .before .before .if1 .left) (sym (not-false _ (c .before .before .if2 .left)) ∙ c .before .before .before .holds .ensures) (c .if3 .left)
 

@@ -6,52 +6,37 @@ use Rattle.reads.proofs.Laws.Values.{held}
 use borrow.Author.Needs.{needs}
 use Rattle.reads.proofs.place.whole_stretch.Statement.{statement}
 use Rattle.reads.proofs.place.whole_stretch.Tie as tie
-use Rattle.reads.proofs.place.whole_stretch.Reads as reads
-use Rattle.reads.proofs.place.whole_stretch.Lts as lts
-use Rattle.decode.proofs.room.product_within.Reads as product-within-reads
-use Rattle.reads.proofs.place.holds.Reads as holds-reads
 
--- src/place.rt:91:9
 returns : tie.Need-returns
 returns c = whole-none _ _ _ _ (c .if1 .taken)
 
--- src/place.rt:98:38
 sub-holds : tie.Need-sub-holds
 sub-holds c = search needs
 
--- src/place.rt:98:37
 mul-holds : tie.Need-mul-holds
 mul-holds c = omega (arith, last-in _ (c .before .before .before .before .pre) (c .before .before .if1 .left))
 
--- src/place.rt:98:64
 mul-holds-2 : tie.Need-mul-holds-2
 mul-holds-2 c = omega (arith, last-in _ (c .before .before .before .before .before .pre) (c .before .before .before .if1 .left))
 
--- src/place.rt:98:37
 add-holds : tie.Need-add-holds
 add-holds c = omega (arith, last-in _ (c .before .before .before .before .before .pre) (c .before .before .before .if1 .left))
 
--- src/place.rt:98:9
 holds-requires : tie.Need-holds-requires
 holds-requires c κs = search needs
 
--- src/place.rt:99:9
 returns-2 : tie.Need-returns-2
 returns-2 c = whole-window _ _ _ _ (c .before .before .before .before .before .if1 .left) (sym (not-true _ (c .if2 .taken)) ∙ c .before .holds .ensures)
 
--- src/place.rt:101:9
 product-within-requires : tie.Need-product-within-requires
 product-within-requires c κs = search needs
 
--- src/place.rt:102:9
 returns-3 : tie.Need-returns-3
 returns-3 c = whole-room _ _ _ _ (c .before .before .before .before .before .before .before .if1 .left) (sym (not-false _ (c .before .before .if2 .left)) ∙ c .before .before .before .holds .ensures) (sym (c .before .product-within .ensures) ∙ not-true _ (c .if3 .taken))
 
--- src/place.rt:105:14
 sub-t12 : tie.Need-sub-t12
 sub-t12 c = held _ _ _ _ (sym (not-false _ (c .before .before .before .if2 .left)) ∙ c .before .before .before .before .holds .ensures) .0
 
--- src/place.rt:86:1
 returns-4 : tie.Need-returns-4
 returns-4 c = whole-got _ _ _ _ (c .before .before .before .before .before .before .before .before .if1 .left) (sym (not-false _ (c .before .before .before .if2 .left)) ∙ c .before .before .before .before .holds .ensures) (sym (c .before .before .product-within .ensures) ∙ not-false _ (c .before .if3 .left))
 

@@ -5,39 +5,25 @@ use Rattle.reads.proofs.Laws.Variable.{described}
 use borrow.Author.Needs.{needs}
 use Rattle.reads.proofs.variable.described.Statement.{statement}
 use Rattle.reads.proofs.variable.described.Tie as tie
-use Rattle.reads.proofs.variable.described.Reads as reads
-use Rattle.reads.proofs.variable.described.Lts as lts
-use Rattle.header.proofs.records.chunk_len.Reads as chunk-len-reads
-use Rattle.header.proofs.records.is_record.Reads as is-record-reads
-use Rattle.items.proofs.types.DataType.of_code.Reads as of-code-reads
-use Rattle.items.proofs.types.DataType.size_of.Reads as size-of-reads
-use Rattle.reads.proofs.variable.records_of.Reads as records-of-reads
 
--- src/variable.rt:114:34
 cast-of-code : tie.Need-cast-of-code
 cast-of-code c = search needs
 
--- src/variable.rt:114:9
 of-code-requires : tie.Need-of-code-requires
 of-code-requires c κs = search needs
 
--- src/variable.rt:117:29
 is-record-requires : tie.Need-is-record-requires
 is-record-requires c κs = search needs
 
--- src/variable.rt:117:18
 records-of-requires : tie.Need-records-of-requires
 records-of-requires c κs = search needs
 
--- src/variable.rt:119:16
 chunk-len-requires : tie.Need-chunk-len-requires
 chunk-len-requires c κs = search needs
 
--- src/variable.rt:120:16
 size-of-requires : tie.Need-size-of-requires
 size-of-requires c κs = search needs
 
--- src/variable.rt:108:1
 returns : tie.Need-returns
 returns c = let p = c .before .before .before .before .before .before .before .pre in described (c .before .before .before .before .before .before .before .args .t) (c .before .before .before .before .before .before .before .args .v) (c .before .before .records-of .ensures ∙ ap (λ (x : Bool). cond x (c .before .before .before .before .before .before .before .args .t .count) 1) (c .before .before .before .is-record .ensures)) (p .5) (c .before .chunk-len .ensures) (p .4) (c .size-of .ensures ∙ ap sizeOf (c .before .before .before .before .of-code .ensures))
 

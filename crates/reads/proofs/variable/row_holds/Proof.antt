@@ -1,21 +1,20 @@
+use borrow.Author.Needs.{needs}
 use native.Mathlib.Omega.{arith}
 use Rattle.reads.proofs.Laws.Variable.{row-rank, row-low, row-high}
 use Rattle.reads.proofs.variable.row_holds.Statement.{statement}
 use Rattle.reads.proofs.variable.row_holds.Tie as tie
-use Rattle.reads.proofs.variable.row_holds.Reads as reads
-use Rattle.reads.proofs.variable.row_holds.Lts as lts
 
--- src/variable.rt:46:9
+cast-rank : tie.Need-cast-rank
+cast-rank c = search needs
+
 returns : tie.Need-returns
 returns c = row-rank (c .before .before .args .v) (c .if1 .taken)
 
--- src/variable.rt:49:9
 returns-2 : tie.Need-returns-2
 returns-2 c = row-low (c .before .before .before .before .args .v) (omega arith) (c .if2 .taken)
 
--- src/variable.rt:42:1
 returns-3 : tie.Need-returns-3
 returns-3 c = row-high (c .before .before .before .before .before .args .v) (omega arith) (omega arith)
 
 pub row-holds-spec : {M : Type 1} → statement M
-row-holds-spec = tie.close (tie.spec returns returns-2 returns-3)
+row-holds-spec = tie.close (tie.spec cast-rank returns returns-2 returns-3)

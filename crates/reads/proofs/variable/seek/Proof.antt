@@ -6,36 +6,25 @@ use Rattle.reads.proofs.Laws.Variable.{tables-parts, chunk-small, sough
 use borrow.Author.Needs.{needs}
 use Rattle.reads.proofs.variable.seek.Statement.{statement}
 use Rattle.reads.proofs.variable.seek.Tie as tie
-use Rattle.reads.proofs.variable.seek.Reads as reads
-use Rattle.reads.proofs.variable.seek.Lts as lts
-use Rattle.reads.proofs.variable.described.Reads as described-reads
-use Rattle.reads.proofs.variable.tables_hold.Reads as tables-hold-reads
 
--- src/variable.rt:122:9
 tables-hold-requires : tie.Need-tables-hold-requires
 tables-hold-requires c κs = search needs
 
--- src/variable.rt:124:9
 returns : tie.Need-returns
 returns c = sought-tables _ _ (sym (c .before .before .tables-hold .ensures .0) ∙ not-true (c .before .before .tables-hold .result .hold) (c .if1 .taken))
 
--- src/variable.rt:127:9
 returns-2 : tie.Need-returns-2
 returns-2 c = sought-none _ _ (sym (c .before .before .before .before .tables-hold .ensures .0) ∙ not-false (c .before .before .before .before .tables-hold .result .hold) (c .before .before .if1 .left)) (c .if2 .taken)
 
--- src/variable.rt:130:13
 mul-v : tie.Need-mul-v
 mul-v c = let h = tables-parts _ (sym (c .before .before .before .before .before .tables-hold .ensures .0) ∙ not-false (c .before .before .before .before .before .tables-hold .result .hold) (c .before .before .before .if1 .left)) in omega (arith, h .shape .vars)
 
--- src/variable.rt:130:13
 array-copy-out-v : tie.Need-array-copy-out-v
 array-copy-out-v c = let h = tables-parts _ (sym (c .before .before .before .before .before .tables-hold .ensures .0) ∙ not-false (c .before .before .before .before .before .tables-hold .result .hold) (c .before .before .before .if1 .left)) in omega (arith, h .shape .vars)
 
--- src/variable.rt:132:17
 described-requires : tie.Need-described-requires
 described-requires c κs = let h = tables-parts _ (sym (c .before .before .before .before .before .before .tables-hold .ensures .0) ∙ not-false (c .before .before .before .before .before .before .tables-hold .result .hold) (c .before .before .before .before .if1 .left)) in let inside = c .before .before .if2 .left in let r = h .shape .rows _ inside in (r .rank, ids-below _ (h .ids) _ inside (h .shape .dims), r .low, r .high, chunk-small _ h _ inside, c .before .before .before .before .before .before .tables-hold .ensures .1 (not-false (c .before .before .before .before .before .before .tables-hold .result .hold) (c .before .before .before .before .if1 .left)))
 
--- src/variable.rt:119:1
 returns-3 : tie.Need-returns-3
 returns-3 c = sought-got _ _ (sym (c .before .before .before .before .before .before .before .tables-hold .ensures .0) ∙ not-false (c .before .before .before .before .before .before .before .tables-hold .result .hold) (c .before .before .before .before .before .if1 .left)) (c .before .before .before .if2 .left) (c .described .ensures)
 

@@ -4,31 +4,22 @@ use Rattle.reads.proofs.Laws.Variable.{typed-other, typed-stop, typed-g
 use borrow.Author.Needs.{needs}
 use Rattle.reads.proofs.variable.seek_as.Statement.{statement}
 use Rattle.reads.proofs.variable.seek_as.Tie as tie
-use Rattle.reads.proofs.variable.seek_as.Reads as reads
-use Rattle.reads.proofs.variable.seek_as.Lts as lts
-use Rattle.reads.proofs.variable.seek.Reads as seek-reads
 
--- src/variable.rt:139:11
 seek-requires : tie.Need-seek-requires
 seek-requires c κs = search needs
 
--- src/variable.rt:140:25
 enum-known-k : tie.Need-enum-known-k
 enum-known-k c = search needs
 
--- src/variable.rt:141:21
 enum-known-v : tie.Need-enum-known-v
 enum-known-v c = search needs
 
--- src/variable.rt:143:17
 returns : tie.Need-returns
 returns c = typed-other _ _ _ (ap ofSought (sym (c .before .before .before .v .given .1)) ∙ c .before .before .before .before .before .seek .ensures) (c .if1 .taken)
 
--- src/variable.rt:136:1
 returns-2 : tie.Need-returns-2
 returns-2 c = typed-stop _ _ _ (ap ofSought (sym (c .before .k .given .1)) ∙ c .before .before .before .seek .ensures)
 
--- src/variable.rt:136:1
 returns-3 : tie.Need-returns-3
 returns-3 c = typed-got _ _ _ (ap ofSought (sym (c .before .before .before .v .given .1)) ∙ c .before .before .before .before .before .seek .ensures) (c .if1 .left)
 

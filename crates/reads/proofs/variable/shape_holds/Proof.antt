@@ -10,9 +10,6 @@ use Rattle.reads.specs.Variable.{rowHolds}
 use Rattle.reads.proofs.Laws.Variable.{shape-dims, shape-vars, shape-row, shape-all}
 use Rattle.reads.proofs.variable.shape_holds.Statement.{statement}
 use Rattle.reads.proofs.variable.shape_holds.Tie as tie
-use Rattle.reads.proofs.variable.shape_holds.Reads as reads
-use Rattle.reads.proofs.variable.shape_holds.Lts as lts
-use Rattle.reads.proofs.variable.row_holds.Reads as row-holds-reads
 
 abbrev Inv-loop : tie.InvT-loop
 Inv-loop t vars i₀ i = (i ≤ t .nvars) × ((k : ℕ) → k < i → rowHolds (varAt t k) ≡ true)
@@ -20,47 +17,36 @@ Inv-loop t vars i₀ i = (i ≤ t .nvars) × ((k : ℕ) → k < i → rowHolds (
 abbrev μ-loop : tie.MeasureT-loop
 μ-loop t vars i₀ i = t .nvars - i
 
--- src/variable.rt:58:9
 returns : tie.Need-returns Inv-loop μ-loop
 returns c = shape-dims _ (c .if1 .taken)
 
--- src/variable.rt:61:9
 returns-2 : tie.Need-returns-2 Inv-loop μ-loop
 returns-2 c = shape-vars _ (omega arith) (c .if2 .taken)
 
--- src/variable.rt:65:5
 loop-holds : tie.Need-loop-holds Inv-loop μ-loop
 loop-holds c = (omega arith, below-none _)
 
--- src/variable.rt:66:23
 mul-row-holds : tie.Need-mul-row-holds Inv-loop μ-loop
 mul-row-holds c = search needs
 
--- src/variable.rt:66:23
 array-copy-out-row-holds : tie.Need-array-copy-out-row-holds Inv-loop μ-loop
 array-copy-out-row-holds c = search needs
 
--- src/variable.rt:66:13
 row-holds-requires : tie.Need-row-holds-requires Inv-loop μ-loop
 row-holds-requires c κs = search needs
 
--- src/variable.rt:67:13
 returns-3 : tie.Need-returns-3 Inv-loop μ-loop
 returns-3 c = shape-row _ (omega arith) (omega arith) _ (c .before .before .before .if3 .taken) (sym (c .before .row-holds .ensures) ∙ not-true _ (c .if4 .taken))
 
--- src/variable.rt:69:9
 add-i : tie.Need-add-i Inv-loop μ-loop
 add-i c = search needs
 
--- src/variable.rt:65:5
 loop-less : tie.Need-loop-less Inv-loop μ-loop
 loop-less c = search needs
 
--- src/variable.rt:65:5
 loop-again : tie.Need-loop-again Inv-loop μ-loop
 loop-again c = (omega arith, below-more _ _ (c .before .before .before .before .before .loop .inv .1) (sym (c .before .row-holds .ensures) ∙ not-false _ (c .if4 .left)))
 
--- src/variable.rt:54:1
 returns-4 : tie.Need-returns-4 Inv-loop μ-loop
 returns-4 c = shape-all _ (omega arith) (omega arith) (λ k h. c .before .before .loop .inv .1 k (omega arith))
 
