@@ -4,4 +4,3 @@ pub mod Variable
 pub mod Values
 pub mod Element
 pub mod Stretch
-pub mod Filled

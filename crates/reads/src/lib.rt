@@ -3,5 +3,3 @@ pub mod lookup; // lookup.rt: names
 pub mod variable; // variable.rt: the variable that a read asks for
 pub mod place; // place.rt: where its elements and records stand in the window
 pub mod element; // element.rt: one element
-pub mod record; // record.rt: one record
-pub mod whole; // whole.rt: all records

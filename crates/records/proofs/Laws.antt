@@ -1,0 +1,2 @@
+-- Laws of outputs that records are decoded into.
+pub mod Filled

@@ -1,0 +1,54 @@
+use mathlib.Core.Path.{sym, ap, _∙_}
+use native.Mathlib.Omega.{arith}
+use denote.Ref.{now}
+use Rattle.decode.specs.Values.{number}
+use Rattle.reads.specs.Stretch.{ofStretched}
+use Rattle.records.proofs.Laws.Filled.{whole-of-fits, byte-decoder-asks, whole-stop, whole-got}
+use borrow.Author.Needs.{needs}
+use Rattle.records.proofs.whole.read_whole_u8.Statement.{statement}
+use Rattle.records.proofs.whole.read_whole_u8.Tie as tie
+
+whole-of-requires : tie.Need-whole-of-requires
+whole-of-requires c κs = search needs
+
+enum-known-k : tie.Need-enum-known-k
+enum-known-k c = search needs
+
+enum-known-x : tie.Need-enum-known-x
+enum-known-x c = search needs
+
+sub-records-u8 : tie.Need-sub-records-u8
+sub-records-u8 c = let h = whole-of-fits 2 _ _ _ _ _ (ap ofStretched (sym (c .before .x .given .1)) ∙ c .before .before .before .whole-of .ensures) in h .inside
+
+part-records-u8-start : tie.Need-part-records-u8-start
+part-records-u8-start c = let h = whole-of-fits 2 _ _ _ _ _ (ap ofStretched (sym (c .before .x .given .1)) ∙ c .before .before .before .whole-of .ensures) in omega (arith, h .inside)
+
+part-records-u8-end : tie.Need-part-records-u8-end
+part-records-u8-end c = search needs
+
+records-u8-requires : tie.Need-records-u8-requires
+records-u8-requires c κs = byte-decoder-asks (now (c .before .before .before .before .before .before .before .before .args .s)) (whole-of-fits 2 _ _ _ _ _ (ap ofStretched (sym (c .before .before .before .x .given .1)) ∙ c .before .before .before .before .before .whole-of .ensures))
+
+returns : tie.Need-returns
+returns c = whole-stop number 2 _ _ _ _ _ (ap ofStretched (sym (c .before .k .given .1)) ∙ c .before .before .before .whole-of .ensures)
+
+same-length : tie.Need-same-length
+same-length c = search needs
+
+returns-2 : tie.Need-returns-2
+returns-2 c = whole-got number 2 _ _ _ _ _ (ap ofStretched (sym (c .before .before .before .before .before .before .x .given .1)) ∙ c .before .before .before .before .before .before .before .before .whole-of .ensures) (c .before .before .records-u8 .ensures)
+
+pub read-whole-u8-spec : {M : Type 1} → statement M
+read-whole-u8-spec =
+    tie.close
+    (tie.spec
+    whole-of-requires
+    enum-known-k
+    enum-known-x
+    sub-records-u8
+    part-records-u8-start
+    part-records-u8-end
+    records-u8-requires
+    returns
+    same-length
+    returns-2)
