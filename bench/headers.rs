@@ -48,6 +48,71 @@ pub fn header(dims: usize, vars: usize, own: usize) -> Vec<u8> {
     out
 }
 
+/// A dimension list, no global attributes, and the start of the variable list.
+fn before_vars(out: &mut Vec<u8>, count: usize, dims: &[(&str, usize)], vars: usize) {
+    out.extend(b"CDF\x01");
+    word(out, count);
+    word(out, 10);
+    word(out, dims.len());
+    for (name, length) in dims {
+        padded(out, name.as_bytes());
+        word(out, *length);
+    }
+    attrs(out, 0);
+    word(out, 11);
+    word(out, vars);
+}
+
+fn var(out: &mut Vec<u8>, name: &str, ids: &[usize], code: usize, begin: usize) {
+    padded(out, name.as_bytes());
+    word(out, ids.len());
+    for id in ids {
+        word(out, *id);
+    }
+    attrs(out, 0);
+    word(out, code);
+    word(out, 4);
+    word(out, begin);
+}
+
+/// The header of a file with one fixed variable of `values` values, which stand right after it.
+#[allow(dead_code)]
+pub fn one_fixed(code: usize, values: usize) -> Vec<u8> {
+    let build = |begin| {
+        let mut out = Vec::new();
+        before_vars(&mut out, 0, &[("n", values)], 1);
+        var(&mut out, "x", &[0], code, begin);
+        out
+    };
+    build(build(0).len())
+}
+
+/// The header of a file with `count` records of two float variables, of `chunk` and of `other` values, which stand right after it.
+#[allow(dead_code)]
+pub fn two_records(count: usize, chunk: usize, other: usize) -> Vec<u8> {
+    let build = |begin| {
+        let mut out = Vec::new();
+        before_vars(&mut out, count, &[("t", 0), ("n", chunk), ("m", other)], 2);
+        var(&mut out, "x", &[0, 1], 5, begin);
+        var(&mut out, "y", &[0, 2], 5, begin + 4 * chunk);
+        out
+    };
+    build(build(0).len())
+}
+
+/// The header of a file of full tables: 64 variables over 8 dimensions of length 2.
+#[allow(dead_code)]
+pub fn full() -> Vec<u8> {
+    let names: Vec<String> = (0..32).map(|k| format!("d{k}")).collect();
+    let dims: Vec<(&str, usize)> = names.iter().map(|n| (n.as_str(), 2)).collect();
+    let mut out = Vec::new();
+    before_vars(&mut out, 0, &dims, 64);
+    for v in 0..64 {
+        var(&mut out, &format!("variable_{v}"), &[v % 25, 1, 2, 3, 4, 5, 6, 7], 6, 0);
+    }
+    out
+}
+
 /// Those that are measured: name, bytes, variables, attributes, target.
 pub fn measured() -> [(&'static str, Vec<u8>, usize, usize, f64); 4] {
     [

@@ -1,4 +1,3 @@
--- Laws of what the exported functions test and answer.
-pub mod Room
-pub mod Decoded
+-- Laws of what the exported functions answer.
+pub mod Values
 pub mod Numbers

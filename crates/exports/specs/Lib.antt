@@ -1,3 +1,3 @@
 -- What the exported functions answer.
-pub mod Decoded
+pub mod Values
 pub mod Numbers

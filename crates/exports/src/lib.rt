@@ -1,3 +1,3 @@
 // What another language calls: functions over numbers and slices, each for every input. A slice crosses as a pointer and a length.
 mod reader; // reader.rt: the header reader
-mod values; // values.rt: the decoders
+mod values; // values.rt: values of a whole file

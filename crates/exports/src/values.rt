@@ -1,136 +1,155 @@
-// The decoders, for a caller that nothing checks: 0, or 22 (output too short or too long for the bytes) and nothing is written.
+// Values of a file whose bytes are all at hand, for a caller that nothing checks. Each answers 0, or the number of the header's refusal or
+// of the read's, with nothing written. A caller's floats have the layout of their bits: the last two keep a NaN's own.
 ghost use mathlib.Core.Path.{_≡_};
 ghost use lib.ListN.{length};
+ghost use Rattle.cdf.specs.Magic.{bothVersions};
+ghost use Rattle.header.specs.Header.{readHeader};
 ghost use Rattle.decode.specs.Values.{byte, short, int, float, double, number};
-ghost use Rattle.exports.specs.Decoded.{fitting, decoded, recordsFit, fittingRecords, decodedRecords};
-use decode::chunk::decode_f32;
-use decode::chunk::decode_f64;
-use decode::chunk::decode_i8;
-use decode::chunk::decode_i16;
-use decode::chunk::decode_i32;
-use decode::chunk::decode_u8;
-use decode::chunk::decode_u32;
-use decode::chunk::decode_u64;
-use decode::room::product_within;
-use decode::strided::records_f32;
+ghost use Rattle.reads.specs.Values.{numberOf, outputOf};
+ghost use Rattle.exports.specs.Values.{numberIn, wholeOfFile, elementOfFile};
+use cdf::version::Admitted;
+use header::reader::Header;
+use header::reader::read_header;
+use reads::element::Value;
+use reads::element::read_element;
+use records::whole::read_whole_f32;
+use records::whole::read_whole_f32_bits;
+use records::whole::read_whole_f64;
+use records::whole::read_whole_f64_bits;
+use records::whole::read_whole_i8;
+use records::whole::read_whole_i16;
+use records::whole::read_whole_i32;
+use records::whole::read_whole_u8;
 
-// Whether `count` chunks have room in `out` elements, and stand within `src` bytes if one starts `stride` bytes after the other.
-fn floats_within(src: usize, out: usize, count: usize, chunk: usize, stride: usize) -> bool
-    ensures { λ r. ⌜ r ≡ recordsFit 4 src out count chunk stride ⌝ }
+fn read_both(file: &[u8]) -> Header
+    ensures { λ r. ⌜ r ≡ readHeader (now (file .entry)) (length (now (file .entry))) bothVersions ⌝ }
 {
-    if count == 0 {
-        return true;
+    let both = Admitted {
+        classic: true,
+        offset64: true,
+    };
+    read_header(file, file.len() as u64, both)
+}
+
+fn number_in(v: Value) -> u8
+    ensures { λ r. ⌜ r ≡ numberIn v ⌝ }
+{
+    match v {
+        Value::Refused(k) => k,
+        Value::Byte(_) => 0,
+        Value::Char(_) => 0,
+        Value::Short(_) => 0,
+        Value::Int(_) => 0,
+        Value::Float(_, _) => 0,
+        Value::Double(_, _) => 0,
     }
-    if src / 4 < chunk {
-        return false;
+}
+
+// The answer number of the read of element `e` of record `r` of the variable `i`.
+#[no_mangle]
+pub extern "C" fn fungal_element_answer(file: &[u8], i: usize, r: u64, e: u64) -> u8
+    ensures { λ k. ⌜ k ≡ numberOf (elementOfFile (now (file .entry)) i r e) ⌝ }
+{
+    let h = read_both(file);
+    if h.number != 0 {
+        return h.number;
     }
-    if !product_within(count, chunk, out) {
-        return false;
-    }
-    product_within(count - 1, stride, src - 4 * chunk)
+    let t = h.tables;
+    number_in(read_element(t, file, 0, i, r, e))
 }
 
 #[no_mangle]
-pub extern "C" fn fungal_decode_i8(src: &[u8], out: &mut [i8]) -> u8
-    ensures { λ r. ⌜ (r ≡ fitting 1 (length (now (src .entry))) (length (now (out .entry)))) × (now (out .exit) ≡ decoded byte 1 (now (src .entry)) (now (out .entry))) ⌝ }
+pub extern "C" fn fungal_read_var_i8(file: &[u8], i: usize, out: &mut [i8]) -> u8
+    ensures { λ k. ⌜ (k ≡ numberOf (wholeOfFile byte 1 (now (file .entry)) i (now (out .entry)))) × (now (out .exit) ≡ outputOf (now (out .entry)) (wholeOfFile byte 1 (now (file .entry)) i (now (out .entry)))) ⌝ }
 {
-    if src.len() != out.len() {
-        return 22;
+    let h = read_both(file);
+    if h.number != 0 {
+        return h.number;
     }
-    decode_i8(src, out);
-    0
+    let t = h.tables;
+    read_whole_i8(t, file, 0, i, out)
 }
 
 #[no_mangle]
-pub extern "C" fn fungal_decode_u8(src: &[u8], out: &mut [u8]) -> u8
-    ensures { λ r. ⌜ (r ≡ fitting 1 (length (now (src .entry))) (length (now (out .entry)))) × (now (out .exit) ≡ decoded number 1 (now (src .entry)) (now (out .entry))) ⌝ }
+pub extern "C" fn fungal_read_var_u8(file: &[u8], i: usize, out: &mut [u8]) -> u8
+    ensures { λ k. ⌜ (k ≡ numberOf (wholeOfFile number 2 (now (file .entry)) i (now (out .entry)))) × (now (out .exit) ≡ outputOf (now (out .entry)) (wholeOfFile number 2 (now (file .entry)) i (now (out .entry)))) ⌝ }
 {
-    if src.len() != out.len() {
-        return 22;
+    let h = read_both(file);
+    if h.number != 0 {
+        return h.number;
     }
-    decode_u8(src, out);
-    0
+    let t = h.tables;
+    read_whole_u8(t, file, 0, i, out)
 }
 
 #[no_mangle]
-pub extern "C" fn fungal_decode_i16(src: &[u8], out: &mut [i16]) -> u8
-    ensures { λ r. ⌜ (r ≡ fitting 2 (length (now (src .entry))) (length (now (out .entry)))) × (now (out .exit) ≡ decoded short 2 (now (src .entry)) (now (out .entry))) ⌝ }
+pub extern "C" fn fungal_read_var_i16(file: &[u8], i: usize, out: &mut [i16]) -> u8
+    ensures { λ k. ⌜ (k ≡ numberOf (wholeOfFile short 3 (now (file .entry)) i (now (out .entry)))) × (now (out .exit) ≡ outputOf (now (out .entry)) (wholeOfFile short 3 (now (file .entry)) i (now (out .entry)))) ⌝ }
 {
-    if src.len() != 2 * out.len() {
-        return 22;
+    let h = read_both(file);
+    if h.number != 0 {
+        return h.number;
     }
-    decode_i16(src, out);
-    0
+    let t = h.tables;
+    read_whole_i16(t, file, 0, i, out)
 }
 
 #[no_mangle]
-pub extern "C" fn fungal_decode_i32(src: &[u8], out: &mut [i32]) -> u8
-    ensures { λ r. ⌜ (r ≡ fitting 4 (length (now (src .entry))) (length (now (out .entry)))) × (now (out .exit) ≡ decoded int 4 (now (src .entry)) (now (out .entry))) ⌝ }
+pub extern "C" fn fungal_read_var_i32(file: &[u8], i: usize, out: &mut [i32]) -> u8
+    ensures { λ k. ⌜ (k ≡ numberOf (wholeOfFile int 4 (now (file .entry)) i (now (out .entry)))) × (now (out .exit) ≡ outputOf (now (out .entry)) (wholeOfFile int 4 (now (file .entry)) i (now (out .entry)))) ⌝ }
 {
-    if src.len() != 4 * out.len() {
-        return 22;
+    let h = read_both(file);
+    if h.number != 0 {
+        return h.number;
     }
-    decode_i32(src, out);
-    0
+    let t = h.tables;
+    read_whole_i32(t, file, 0, i, out)
 }
 
 #[no_mangle]
-pub extern "C" fn fungal_decode_f32(src: &[u8], out: &mut [f32]) -> u8
-    ensures { λ r. ⌜ (r ≡ fitting 4 (length (now (src .entry))) (length (now (out .entry)))) × (now (out .exit) ≡ decoded float 4 (now (src .entry)) (now (out .entry))) ⌝ }
+pub extern "C" fn fungal_read_var_f32(file: &[u8], i: usize, out: &mut [f32]) -> u8
+    ensures { λ k. ⌜ (k ≡ numberOf (wholeOfFile float 5 (now (file .entry)) i (now (out .entry)))) × (now (out .exit) ≡ outputOf (now (out .entry)) (wholeOfFile float 5 (now (file .entry)) i (now (out .entry)))) ⌝ }
 {
-    if src.len() != 4 * out.len() {
-        return 22;
+    let h = read_both(file);
+    if h.number != 0 {
+        return h.number;
     }
-    decode_f32(src, out);
-    0
+    let t = h.tables;
+    read_whole_f32(t, file, 0, i, out)
 }
 
 #[no_mangle]
-pub extern "C" fn fungal_decode_f64(src: &[u8], out: &mut [f64]) -> u8
-    ensures { λ r. ⌜ (r ≡ fitting 8 (length (now (src .entry))) (length (now (out .entry)))) × (now (out .exit) ≡ decoded double 8 (now (src .entry)) (now (out .entry))) ⌝ }
+pub extern "C" fn fungal_read_var_f64(file: &[u8], i: usize, out: &mut [f64]) -> u8
+    ensures { λ k. ⌜ (k ≡ numberOf (wholeOfFile double 6 (now (file .entry)) i (now (out .entry)))) × (now (out .exit) ≡ outputOf (now (out .entry)) (wholeOfFile double 6 (now (file .entry)) i (now (out .entry)))) ⌝ }
 {
-    if src.len() != 8 * out.len() {
-        return 22;
+    let h = read_both(file);
+    if h.number != 0 {
+        return h.number;
     }
-    decode_f64(src, out);
-    0
+    let t = h.tables;
+    read_whole_f64(t, file, 0, i, out)
 }
 
 #[no_mangle]
-pub extern "C" fn fungal_decode_u32(src: &[u8], out: &mut [u32]) -> u8
-    ensures { λ r. ⌜ (r ≡ fitting 4 (length (now (src .entry))) (length (now (out .entry)))) × (now (out .exit) ≡ decoded number 4 (now (src .entry)) (now (out .entry))) ⌝ }
+pub extern "C" fn fungal_read_var_f32_bits(file: &[u8], i: usize, out: &mut [u32]) -> u8
+    ensures { λ k. ⌜ (k ≡ numberOf (wholeOfFile number 5 (now (file .entry)) i (now (out .entry)))) × (now (out .exit) ≡ outputOf (now (out .entry)) (wholeOfFile number 5 (now (file .entry)) i (now (out .entry)))) ⌝ }
 {
-    if src.len() != 4 * out.len() {
-        return 22;
+    let h = read_both(file);
+    if h.number != 0 {
+        return h.number;
     }
-    decode_u32(src, out);
-    0
+    let t = h.tables;
+    read_whole_f32_bits(t, file, 0, i, out)
 }
 
 #[no_mangle]
-pub extern "C" fn fungal_decode_u64(src: &[u8], out: &mut [u64]) -> u8
-    ensures { λ r. ⌜ (r ≡ fitting 8 (length (now (src .entry))) (length (now (out .entry)))) × (now (out .exit) ≡ decoded number 8 (now (src .entry)) (now (out .entry))) ⌝ }
+pub extern "C" fn fungal_read_var_f64_bits(file: &[u8], i: usize, out: &mut [u64]) -> u8
+    ensures { λ k. ⌜ (k ≡ numberOf (wholeOfFile number 6 (now (file .entry)) i (now (out .entry)))) × (now (out .exit) ≡ outputOf (now (out .entry)) (wholeOfFile number 6 (now (file .entry)) i (now (out .entry)))) ⌝ }
 {
-    if src.len() != 8 * out.len() {
-        return 22;
+    let h = read_both(file);
+    if h.number != 0 {
+        return h.number;
     }
-    decode_u64(src, out);
-    0
-}
-
-#[no_mangle]
-pub extern "C" fn fungal_records_f32(
-    src: &[u8],
-    out: &mut [f32],
-    count: usize,
-    chunk: usize,
-    stride: usize,
-) -> u8
-    ensures { λ r. ⌜ (r ≡ fittingRecords 4 (length (now (src .entry))) (length (now (out .entry))) count chunk stride) × (now (out .exit) ≡ decodedRecords float 4 (now (src .entry)) (now (out .entry)) count chunk stride) ⌝ }
-{
-    if !floats_within(src.len(), out.len(), count, chunk, stride) {
-        return 22;
-    }
-    records_f32(src, out, count, chunk, stride);
-    0
+    let t = h.tables;
+    read_whole_f64_bits(t, file, 0, i, out)
 }
