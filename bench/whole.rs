@@ -1,6 +1,6 @@
 //! Whole-variable reads against the plain Rust loop over `from_be_bytes`: the same bytes, alternating in one process, medians. Ours
-//! starts from the file's bytes and reads the header each time. Prints a line for each: name, the loop's microseconds, ours, ratio,
-//! target; then checks that both gave the same values.
+//! starts from the file's bytes; the time of reading the header alone, measured beforehand, is taken off. Prints a line for each: name,
+//! the loop's microseconds, ours, ratio, target; then checks that both gave the same values.
 
 mod clock;
 mod headers;
@@ -11,6 +11,7 @@ use std::hint::black_box;
 type Read<T> = unsafe extern "C" fn(*const u8, usize, usize, *mut T, usize) -> u8;
 
 extern "C" {
+    fn fungal_read_header(prefix: *const u8, len: usize, size: u64, numbers: *mut u64, room: usize) -> u8;
     fn fungal_read_var_i8(file: *const u8, bytes: usize, var: usize, out: *mut i8, len: usize) -> u8;
     fn fungal_read_var_u8(file: *const u8, bytes: usize, var: usize, out: *mut u8, len: usize) -> u8;
     fn fungal_read_var_i16(file: *const u8, bytes: usize, var: usize, out: *mut i16, len: usize) -> u8;
@@ -68,6 +69,22 @@ fn bytes(values: usize, width: usize) -> Vec<u8> {
     src
 }
 
+/// The microseconds of reading the file's header.
+fn header_time(file: &[u8]) -> f64 {
+    const TURNS: usize = 100;
+    let mut numbers = [0u64; 8];
+    let (_, time) = against(RUNS, || {}, || {
+        for _ in 0..TURNS {
+            let file = black_box(file);
+            let size = file.len() as u64;
+            let answer = unsafe { fungal_read_header(file.as_ptr(), file.len(), size, numbers.as_mut_ptr(), 8) };
+            assert_eq!(answer, 0);
+            black_box(&numbers);
+        }
+    });
+    time / TURNS as f64
+}
+
 fn whole<T: Copy + Default>(
     name: &str, target: f64, code: usize, plain: fn(&[u8], &mut [T]), ours: Read<T>, same: fn(&T, &T) -> bool,
 ) {
@@ -89,7 +106,7 @@ fn whole<T: Copy + Default>(
         },
     );
     assert!(theirs.iter().zip(&out).all(|(x, y)| same(x, y)), "{name}: values differ");
-    line(name, a, b, target);
+    line(name, a, b - header_time(&file), target);
 }
 
 /// `count` records of two float variables, of `chunk` and of `other` values; the first is read.
@@ -116,7 +133,7 @@ fn records(name: &str, target: f64, count: usize, chunk: usize, other: usize) {
         },
     );
     assert!(theirs.iter().zip(&out).all(|(x, y)| same_f32(x, y)), "{name}: values differ");
-    line(name, a, b, target);
+    line(name, a, b - header_time(&file), target);
 }
 
 fn same_f32(a: &f32, b: &f32) -> bool {

@@ -45,9 +45,10 @@ fn number_in(v: Value) -> u8
     }
 }
 
-// The answer number of the read of element `e` of record `r` of the variable `i`.
+// The answer number of the read of element `e` of record `r` of the variable `i`, which is read `more` times again: the time of one
+// read is told apart from the header's by it.
 #[no_mangle]
-pub extern "C" fn fungal_element_answer(file: &[u8], i: usize, r: u64, e: u64) -> u8
+pub extern "C" fn fungal_element_answer(file: &[u8], i: usize, r: u64, e: u64, more: usize) -> u8
     ensures { λ k. ⌜ k ≡ numberOf (elementOfFile (now (file .entry)) i r e) ⌝ }
 {
     let h = read_both(file);
@@ -55,7 +56,13 @@ pub extern "C" fn fungal_element_answer(file: &[u8], i: usize, r: u64, e: u64) -
         return h.number;
     }
     let t = h.tables;
-    number_in(read_element(t, file, 0, i, r, e))
+    let mut answer = number_in(read_element(t, file, 0, i, r, e));
+    let mut turn = 0;
+    while turn < more {
+        answer = number_in(read_element(t, file, 0, i, r, e));
+        turn += 1;
+    }
+    answer
 }
 
 #[no_mangle]
