@@ -1,5 +1,5 @@
 //! Whole-variable reads against the plain Rust loop over `from_be_bytes`: the same bytes, alternating in one process, medians. Ours
-//! starts from the file's bytes; the time of reading the header alone, measured beforehand, is taken off. Prints a line for each: name,
+//! starts from the file's bytes; the time of reading the header alone, with the caches in the same state, is taken off. Prints a line for each: name,
 //! the loop's microseconds, ours, ratio, target; then checks that both gave the same values.
 
 mod clock;
@@ -69,20 +69,17 @@ fn bytes(values: usize, width: usize) -> Vec<u8> {
     src
 }
 
-/// The microseconds of reading the file's header.
-fn header_time(file: &[u8]) -> f64 {
-    const TURNS: usize = 100;
+/// The microseconds of reading the file's header right after `before`, which leaves the caches as the reads find them.
+fn header_time(file: &[u8], before: impl FnMut()) -> f64 {
     let mut numbers = [0u64; 8];
-    let (_, time) = against(RUNS, || {}, || {
-        for _ in 0..TURNS {
-            let file = black_box(file);
-            let size = file.len() as u64;
-            let answer = unsafe { fungal_read_header(file.as_ptr(), file.len(), size, numbers.as_mut_ptr(), 8) };
-            assert_eq!(answer, 0);
-            black_box(&numbers);
-        }
+    let size = file.len() as u64;
+    let (_, time) = against(RUNS, before, || {
+        let file = black_box(file);
+        let answer = unsafe { fungal_read_header(file.as_ptr(), file.len(), size, numbers.as_mut_ptr(), 8) };
+        assert_eq!(answer, 0);
+        black_box(&numbers);
     });
-    time / TURNS as f64
+    time
 }
 
 fn whole<T: Copy + Default>(
@@ -106,7 +103,11 @@ fn whole<T: Copy + Default>(
         },
     );
     assert!(theirs.iter().zip(&out).all(|(x, y)| same(x, y)), "{name}: values differ");
-    line(name, a, b - header_time(&file), target);
+    let header = header_time(&file, || {
+        plain(&black_box(&file)[begin..], &mut theirs);
+        black_box(&theirs);
+    });
+    line(name, a, b - header, target);
 }
 
 /// `count` records of two float variables, of `chunk` and of `other` values; the first is read.
@@ -133,7 +134,11 @@ fn records(name: &str, target: f64, count: usize, chunk: usize, other: usize) {
         },
     );
     assert!(theirs.iter().zip(&out).all(|(x, y)| same_f32(x, y)), "{name}: values differ");
-    line(name, a, b - header_time(&file), target);
+    let header = header_time(&file, || {
+        plain_f32(&black_box(&file)[begin..], &mut theirs);
+        black_box(&theirs);
+    });
+    line(name, a, b - header, target);
 }
 
 fn same_f32(a: &f32, b: &f32) -> bool {

@@ -1,14 +1,11 @@
 // Values of a file whose bytes are all at hand, for a caller that nothing checks. Each answers 0, or the number of the header's refusal or
 // of the read's, with nothing written. A caller's floats have the layout of their bits: the last two keep a NaN's own.
 ghost use mathlib.Core.Path.{_≡_};
-ghost use lib.ListN.{length};
 ghost use Rattle.cdf.specs.Magic.{bothVersions};
-ghost use Rattle.header.specs.Header.{readHeader};
 ghost use Rattle.decode.specs.Values.{byte, short, int, float, double, number};
 ghost use Rattle.reads.specs.Values.{numberOf, outputOf};
 ghost use Rattle.exports.specs.Values.{numberIn, wholeOfFile, elementOfFile};
 use cdf::version::Admitted;
-use header::reader::Header;
 use header::reader::read_header;
 use reads::element::Value;
 use reads::element::read_element;
@@ -21,14 +18,13 @@ use records::whole::read_whole_i16;
 use records::whole::read_whole_i32;
 use records::whole::read_whole_u8;
 
-fn read_both(file: &[u8]) -> Header
-    ensures { λ r. ⌜ r ≡ readHeader (now (file .entry)) (length (now (file .entry))) bothVersions ⌝ }
+fn both() -> Admitted
+    ensures { λ r. ⌜ r ≡ bothVersions ⌝ }
 {
-    let both = Admitted {
+    Admitted {
         classic: true,
         offset64: true,
-    };
-    read_header(file, file.len() as u64, both)
+    }
 }
 
 fn number_in(v: Value) -> u8
@@ -51,7 +47,7 @@ fn number_in(v: Value) -> u8
 pub extern "C" fn fungal_element_answer(file: &[u8], i: usize, r: u64, e: u64, more: usize) -> u8
     ensures { λ k. ⌜ k ≡ numberOf (elementOfFile (now (file .entry)) i r e) ⌝ }
 {
-    let h = read_both(file);
+    let h = read_header(file, file.len() as u64, both());
     if h.number != 0 {
         return h.number;
     }
@@ -69,94 +65,86 @@ pub extern "C" fn fungal_element_answer(file: &[u8], i: usize, r: u64, e: u64, m
 pub extern "C" fn fungal_read_var_i8(file: &[u8], i: usize, out: &mut [i8]) -> u8
     ensures { λ k. ⌜ (k ≡ numberOf (wholeOfFile byte 1 (now (file .entry)) i (now (out .entry)))) × (now (out .exit) ≡ outputOf (now (out .entry)) (wholeOfFile byte 1 (now (file .entry)) i (now (out .entry)))) ⌝ }
 {
-    let h = read_both(file);
+    let h = read_header(file, file.len() as u64, both());
     if h.number != 0 {
         return h.number;
     }
-    let t = h.tables;
-    read_whole_i8(t, file, 0, i, out)
+    read_whole_i8(h.tables, file, 0, i, out)
 }
 
 #[no_mangle]
 pub extern "C" fn fungal_read_var_u8(file: &[u8], i: usize, out: &mut [u8]) -> u8
     ensures { λ k. ⌜ (k ≡ numberOf (wholeOfFile number 2 (now (file .entry)) i (now (out .entry)))) × (now (out .exit) ≡ outputOf (now (out .entry)) (wholeOfFile number 2 (now (file .entry)) i (now (out .entry)))) ⌝ }
 {
-    let h = read_both(file);
+    let h = read_header(file, file.len() as u64, both());
     if h.number != 0 {
         return h.number;
     }
-    let t = h.tables;
-    read_whole_u8(t, file, 0, i, out)
+    read_whole_u8(h.tables, file, 0, i, out)
 }
 
 #[no_mangle]
 pub extern "C" fn fungal_read_var_i16(file: &[u8], i: usize, out: &mut [i16]) -> u8
     ensures { λ k. ⌜ (k ≡ numberOf (wholeOfFile short 3 (now (file .entry)) i (now (out .entry)))) × (now (out .exit) ≡ outputOf (now (out .entry)) (wholeOfFile short 3 (now (file .entry)) i (now (out .entry)))) ⌝ }
 {
-    let h = read_both(file);
+    let h = read_header(file, file.len() as u64, both());
     if h.number != 0 {
         return h.number;
     }
-    let t = h.tables;
-    read_whole_i16(t, file, 0, i, out)
+    read_whole_i16(h.tables, file, 0, i, out)
 }
 
 #[no_mangle]
 pub extern "C" fn fungal_read_var_i32(file: &[u8], i: usize, out: &mut [i32]) -> u8
     ensures { λ k. ⌜ (k ≡ numberOf (wholeOfFile int 4 (now (file .entry)) i (now (out .entry)))) × (now (out .exit) ≡ outputOf (now (out .entry)) (wholeOfFile int 4 (now (file .entry)) i (now (out .entry)))) ⌝ }
 {
-    let h = read_both(file);
+    let h = read_header(file, file.len() as u64, both());
     if h.number != 0 {
         return h.number;
     }
-    let t = h.tables;
-    read_whole_i32(t, file, 0, i, out)
+    read_whole_i32(h.tables, file, 0, i, out)
 }
 
 #[no_mangle]
 pub extern "C" fn fungal_read_var_f32(file: &[u8], i: usize, out: &mut [f32]) -> u8
     ensures { λ k. ⌜ (k ≡ numberOf (wholeOfFile float 5 (now (file .entry)) i (now (out .entry)))) × (now (out .exit) ≡ outputOf (now (out .entry)) (wholeOfFile float 5 (now (file .entry)) i (now (out .entry)))) ⌝ }
 {
-    let h = read_both(file);
+    let h = read_header(file, file.len() as u64, both());
     if h.number != 0 {
         return h.number;
     }
-    let t = h.tables;
-    read_whole_f32(t, file, 0, i, out)
+    read_whole_f32(h.tables, file, 0, i, out)
 }
 
 #[no_mangle]
 pub extern "C" fn fungal_read_var_f64(file: &[u8], i: usize, out: &mut [f64]) -> u8
     ensures { λ k. ⌜ (k ≡ numberOf (wholeOfFile double 6 (now (file .entry)) i (now (out .entry)))) × (now (out .exit) ≡ outputOf (now (out .entry)) (wholeOfFile double 6 (now (file .entry)) i (now (out .entry)))) ⌝ }
 {
-    let h = read_both(file);
+    let h = read_header(file, file.len() as u64, both());
     if h.number != 0 {
         return h.number;
     }
-    let t = h.tables;
-    read_whole_f64(t, file, 0, i, out)
+    read_whole_f64(h.tables, file, 0, i, out)
 }
 
 #[no_mangle]
 pub extern "C" fn fungal_read_var_f32_bits(file: &[u8], i: usize, out: &mut [u32]) -> u8
     ensures { λ k. ⌜ (k ≡ numberOf (wholeOfFile number 5 (now (file .entry)) i (now (out .entry)))) × (now (out .exit) ≡ outputOf (now (out .entry)) (wholeOfFile number 5 (now (file .entry)) i (now (out .entry)))) ⌝ }
 {
-    let h = read_both(file);
+    let h = read_header(file, file.len() as u64, both());
     if h.number != 0 {
         return h.number;
     }
-    let t = h.tables;
-    read_whole_f32_bits(t, file, 0, i, out)
+    read_whole_f32_bits(h.tables, file, 0, i, out)
 }
 
 #[no_mangle]
 pub extern "C" fn fungal_read_var_f64_bits(file: &[u8], i: usize, out: &mut [u64]) -> u8
     ensures { λ k. ⌜ (k ≡ numberOf (wholeOfFile number 6 (now (file .entry)) i (now (out .entry)))) × (now (out .exit) ≡ outputOf (now (out .entry)) (wholeOfFile number 6 (now (file .entry)) i (now (out .entry)))) ⌝ }
 {
-    let h = read_both(file);
+    let h = read_header(file, file.len() as u64, both());
     if h.number != 0 {
         return h.number;
     }
-    let t = h.tables;
-    read_whole_f64_bits(t, file, 0, i, out)
+    read_whole_f64_bits(h.tables, file, 0, i, out)
 }

@@ -5,6 +5,7 @@ use mathlib.Core.List.{List}
 use lib.ListN.{length}
 use borrow.Author.Tests.{eq-eqb, ne-eqb}
 use Rattle.cdf.specs.Magic.{bothVersions}
+use Rattle.cdf.specs.declared.version.Admitted.{Admitted}
 use Rattle.cdf.specs.Step.{Step, got, stop, bind}
 use Rattle.cdf.proofs.Laws.Step.{by-true, by-false}
 use Rattle.header.specs.Header.{readHeader}
@@ -45,6 +46,9 @@ module _ {A : Type 0} (h : Header) (f : Tables → Step A) where
 
   read : h .number ≡ 0 → f (h .tables) ≡ afterHeader h f
   read e = by-true _ (eq-eqb (h .number) 0 e) refl
+
+pub header-is : {h : Header} {a : Admitted} (s : List ℕ) → h ≡ readHeader s (length s) a → a ≡ bothVersions → h ≡ readHeader s (length s) bothVersions
+header-is s e f = e ∙ ap (readHeader s (length s)) f
 
 module _ {h : Header} (s : List ℕ) (is : h ≡ readHeader s (length s) bothVersions) where
   moved : {A : Type 0} (f : Tables → Step A) → afterHeader h f ≡ afterHeader (readHeader s (length s) bothVersions) f

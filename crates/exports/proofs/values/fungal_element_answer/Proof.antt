@@ -4,7 +4,7 @@ use native.Mathlib.Omega.{arith}
 use borrow.Author.Needs.{needs}
 use Rattle.reads.specs.Values.{numberOf}
 use Rattle.exports.specs.Values.{elementOfFile}
-use Rattle.exports.proofs.Laws.Values.{element-refused, element-read}
+use Rattle.exports.proofs.Laws.Values.{header-is, element-refused, element-read}
 use Rattle.exports.proofs.values.fungal_element_answer.Statement.{statement}
 use Rattle.exports.proofs.values.fungal_element_answer.Tie as tie
 
@@ -14,11 +14,14 @@ Inv-loop file i r e more t answer₀ turn₀ answer turn = (turn ≤ more) × (a
 abbrev μ-loop : tie.MeasureT-loop
 μ-loop file i r e more t answer₀ turn₀ answer turn = more - turn
 
-read-both-requires : tie.Need-read-both-requires Inv-loop μ-loop
-read-both-requires c κs = search needs
+both-requires : tie.Need-both-requires Inv-loop μ-loop
+both-requires c κs = search needs
+
+read-header-requires : tie.Need-read-header-requires Inv-loop μ-loop
+read-header-requires c κs = search needs
 
 returns : tie.Need-returns Inv-loop μ-loop
-returns c = element-refused _ (c .before .before .read-both .ensures) _ _ _ (c .if1 .taken)
+returns c = element-refused _ (header-is _ (c .before .before .read-header .ensures) (c .before .before .before .both .ensures)) _ _ _ (c .if1 .taken)
 
 read-element-requires : tie.Need-read-element-requires Inv-loop μ-loop
 read-element-requires c κs = search needs
@@ -27,7 +30,7 @@ number-in-requires : tie.Need-number-in-requires Inv-loop μ-loop
 number-in-requires c κs = search needs
 
 loop-holds : tie.Need-loop-holds Inv-loop μ-loop
-loop-holds c = (omega arith, element-read _ (c .before .before .before .before .before .read-both .ensures) _ _ _ (c .before .before .before .if1 .left) (c .before .read-element .ensures) (c .number-in .ensures))
+loop-holds c = (omega arith, element-read _ (header-is _ (c .before .before .before .before .before .read-header .ensures) (c .before .before .before .before .before .before .both .ensures)) _ _ _ (c .before .before .before .if1 .left) (c .before .read-element .ensures) (c .number-in .ensures))
 
 read-element-requires-2 : tie.Need-read-element-requires-2 Inv-loop μ-loop
 read-element-requires-2 c κs = search needs
@@ -42,7 +45,7 @@ loop-less : tie.Need-loop-less Inv-loop μ-loop
 loop-less c = search needs
 
 loop-again : tie.Need-loop-again Inv-loop μ-loop
-loop-again c = (omega arith, element-read _ (c .before .before .before .before .before .before .before .before .before .read-both .ensures) _ _ _ (c .before .before .before .before .before .before .before .if1 .left) (c .before .read-element2 .ensures) (c .number-in2 .ensures))
+loop-again c = (omega arith, element-read _ (header-is _ (c .before .before .before .before .before .before .before .before .before .read-header .ensures) (c .before .before .before .before .before .before .before .before .before .before .both .ensures)) _ _ _ (c .before .before .before .before .before .before .before .if1 .left) (c .before .read-element2 .ensures) (c .number-in2 .ensures))
 
 returns-2 : tie.Need-returns-2 Inv-loop μ-loop
 returns-2 c = c .before .loop .inv .1
@@ -53,7 +56,8 @@ fungal-element-answer-spec =
     (tie.spec
     Inv-loop
     μ-loop
-    read-both-requires
+    both-requires
+    read-header-requires
     returns
     read-element-requires
     number-in-requires

@@ -1,14 +1,17 @@
 use Rattle.decode.specs.Values.{byte}
-use Rattle.exports.proofs.Laws.Values.{whole-refused, whole-read}
+use Rattle.exports.proofs.Laws.Values.{header-is, whole-refused, whole-read}
 use borrow.Author.Needs.{needs}
 use Rattle.exports.proofs.values.fungal_read_var_i8.Statement.{statement}
 use Rattle.exports.proofs.values.fungal_read_var_i8.Tie as tie
 
-read-both-requires : tie.Need-read-both-requires
-read-both-requires c κs = search needs
+both-requires : tie.Need-both-requires
+both-requires c κs = search needs
+
+read-header-requires : tie.Need-read-header-requires
+read-header-requires c κs = search needs
 
 returns : tie.Need-returns
-returns c = whole-refused _ (c .before .before .read-both .ensures) byte 1 _ _ (c .if1 .taken)
+returns c = whole-refused _ (header-is _ (c .before .before .read-header .ensures) (c .before .before .before .both .ensures)) byte 1 _ _ (c .if1 .taken)
 
 read-whole-i8-requires : tie.Need-read-whole-i8-requires
 read-whole-i8-requires c κs = search needs
@@ -17,8 +20,15 @@ same-length : tie.Need-same-length
 same-length c = search needs
 
 returns-2 : tie.Need-returns-2
-returns-2 c = whole-read _ (c .before .before .before .before .before .before .read-both .ensures) byte 1 _ _ (c .before .before .before .before .if1 .left) (c .before .read-whole-i8 .ensures)
+returns-2 c = whole-read _ (header-is _ (c .before .before .before .before .before .read-header .ensures) (c .before .before .before .before .before .before .both .ensures)) byte 1 _ _ (c .before .before .before .if1 .left) (c .before .read-whole-i8 .ensures)
 
 pub fungal-read-var-i8-spec : {M : Type 1} → statement M
 fungal-read-var-i8-spec =
-    tie.close (tie.spec read-both-requires returns read-whole-i8-requires same-length returns-2)
+    tie.close
+    (tie.spec
+    both-requires
+    read-header-requires
+    returns
+    read-whole-i8-requires
+    same-length
+    returns-2)
