@@ -1,3 +1,2 @@
 -- Laws of what the exported functions answer.
-pub mod Values
 pub mod Numbers

@@ -1,3 +1,2 @@
 -- What the exported functions answer.
-pub mod Values
 pub mod Numbers

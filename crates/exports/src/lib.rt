@@ -1,3 +1,2 @@
 // What another language calls: functions over numbers and slices, each for every input. A slice crosses as a pointer and a length.
 mod reader; // reader.rt: the header reader
-mod values; // values.rt: values of a whole file

@@ -18,7 +18,7 @@ use Rattle.reads.specs.Variable.{sought}
 use Rattle.reads.specs.Values.{bits, elementSpot, numberOf, outputOf, wholeRead}
 use Rattle.reads.specs.Element.{valueOf, valueAnswer, elementOf, elementRead}
 use Rattle.reads.specs.declared.element.Value.{Value}
-use Rattle.exports.specs.Values.{numberIn, afterHeader, wholeOfFile, elementOfFile}
+use Rattle.values.specs.Values.{numberIn, afterHeader, wholeOfFile, elementOfFile}
 
 -- ---- the number in an element read's answer is that of the read
 value-number : (d : DataType) (b : ℕ) → numberIn (valueOf d b) ≡ 0

@@ -4,7 +4,7 @@ ghost use mathlib.Core.Path.{_≡_};
 ghost use Rattle.cdf.specs.Magic.{bothVersions};
 ghost use Rattle.decode.specs.Values.{byte, short, int, float, double, number};
 ghost use Rattle.reads.specs.Values.{numberOf, outputOf};
-ghost use Rattle.exports.specs.Values.{numberIn, wholeOfFile, elementOfFile};
+ghost use Rattle.values.specs.Values.{numberIn, wholeOfFile, elementOfFile};
 use cdf::version::Admitted;
 use header::reader::read_header;
 use reads::element::Value;

@@ -3,10 +3,10 @@ use mathlib.Core.Path.{_≡_}
 use native.Mathlib.Omega.{arith}
 use borrow.Author.Needs.{needs}
 use Rattle.reads.specs.Values.{numberOf}
-use Rattle.exports.specs.Values.{elementOfFile}
-use Rattle.exports.proofs.Laws.Values.{header-is, element-refused, element-read}
-use Rattle.exports.proofs.values.fungal_element_answer.Statement.{statement}
-use Rattle.exports.proofs.values.fungal_element_answer.Tie as tie
+use Rattle.values.specs.Values.{elementOfFile}
+use Rattle.values.proofs.Laws.Values.{header-is, element-refused, element-read}
+use Rattle.values.proofs.values.fungal_element_answer.Statement.{statement}
+use Rattle.values.proofs.values.fungal_element_answer.Tie as tie
 
 abbrev Inv-loop : tie.InvT-loop
 Inv-loop file i r e more t answer₀ turn₀ answer turn = (turn ≤ more) × (answer ≡ numberOf (elementOfFile file i r e))

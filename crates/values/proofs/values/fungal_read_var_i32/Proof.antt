@@ -1,8 +1,8 @@
 use Rattle.decode.specs.Values.{int}
-use Rattle.exports.proofs.Laws.Values.{header-is, whole-refused, whole-read}
+use Rattle.values.proofs.Laws.Values.{header-is, whole-refused, whole-read}
 use borrow.Author.Needs.{needs}
-use Rattle.exports.proofs.values.fungal_read_var_i32.Statement.{statement}
-use Rattle.exports.proofs.values.fungal_read_var_i32.Tie as tie
+use Rattle.values.proofs.values.fungal_read_var_i32.Statement.{statement}
+use Rattle.values.proofs.values.fungal_read_var_i32.Tie as tie
 
 both-requires : tie.Need-both-requires
 both-requires c κs = search needs
