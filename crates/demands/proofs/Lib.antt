@@ -3,3 +3,4 @@ pub mod Examples
 pub mod Numbers
 pub mod Versions
 pub mod RecordCount
+pub mod ValueReads

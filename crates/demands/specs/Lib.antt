@@ -3,3 +3,4 @@ pub mod Determined
 pub mod Examples
 pub mod Versions
 pub mod RecordCount
+pub mod ValueReads
