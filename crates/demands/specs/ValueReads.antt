@@ -1,11 +1,17 @@
--- Reads with an output (01, Records; Answer numbers). `F` is the value that bits stand for, `code` the type that is asked for: the entries
--- of reads/src have `byte` at 1, `number` at 2, `short` at 3, `int` at 4, `float` at 5, `double` at 6, and `number` at 5 and 6 for the bits.
-use Prim.Native.Nat.{ℕ}
+-- Reads (01, Records; Answer numbers): refusals leave outputs, and the three kinds of reads agree. `F` is the value that bits stand for, `code`
+-- the type that is asked for: the entries of reads/src have `byte` at 1, `number` at 2, `short` at 3, `int` at 4, `float` at 5, `double` at 6,
+-- and `number` at 5 and 6 for the bits.
+use Prim.Native.Nat.{ℕ, _+_, _*_, _≤_, _<_}
 use mathlib.Core.Path.{_≡_}
 use mathlib.Core.List.{List}
-use Rattle.cdf.specs.Step.{Step}
+use lib.ListN.{length, getD}
+use Rattle.cdf.specs.Step.{Step, got}
+use Rattle.items.specs.Types.{typeOf}
 use Rattle.grammar.specs.declared.tables.Tables.{Tables}
-use Rattle.reads.specs.Values.{numberOf, outputOf, recordRead, wholeRead}
+use Rattle.reads.specs.Variable.{soughtAs}
+use Rattle.reads.specs.Values.{bits, numberOf, outputOf, recordRead, wholeRead}
+use Rattle.reads.specs.Element.{valueOf, elementRead, elementReadAs}
+use Rattle.reads.specs.declared.variable.Variable.{Variable}
 
 -- a read that answers 0 (01, number 0: "accepted")
 abbrev pub Accepts : {A : Type 0} → Step A → Type 0
@@ -20,3 +26,37 @@ unfoldable pub RefusalsLeaveOutputs : Type 1
 RefusalsLeaveOutputs =
     (A : Type 0) (F : ℕ → A) (code : ℕ) (t : Tables) (s : List ℕ) (start i : ℕ) (out : List A)
     → ((r : ℕ) → Untouched out (recordRead F code t s start i r out)) × Untouched out (wholeRead F code t s start i out)
+
+-- v is the i-th variable, and of the type `code`
+abbrev pub Typed : ℕ → Tables → ℕ → Variable → Type 0
+Typed code t i v = soughtAs code t i ≡ got v 0
+
+-- a read of unasked type answers as the read of the variable's own type
+unfoldable pub ElementsAgree : Type 0
+ElementsAgree =
+    (code : ℕ) (t : Tables) (s : List ℕ) (start i r e : ℕ) (v : Variable) → Typed code t i v → elementRead t s start i r e ≡ elementReadAs code t s start i r e
+
+-- where a record read accepts, each element read of its chunk does, and entry e of the output and the element are the values of the same bits
+-- (01, Records: "Record reads fill from element 0.")
+unfoldable pub RecordsAgree : Type 1
+RecordsAgree =
+    (A : Type 0) (F : ℕ → A) (code : ℕ) (t : Tables) (s : List ℕ) (start i r : ℕ) (out : List A) (v : Variable)
+    → Typed code t i v
+    → Accepts (recordRead F code t s start i r out)
+    → (e : ℕ) (z : A)
+    → e < v .chunk
+    → (elementReadAs code t s start i r e ≡ got (valueOf (typeOf code) (bits v s start r e)) 0)
+    × (getD (outputOf out (recordRead F code t s start i r out)) e z ≡ F (bits v s start r e))
+
+-- where a whole-variable read accepts, each record read with room for a chunk does, and their outputs have the same entries (01, Records:
+-- "Whole-variable reads put record k's values at element k × chunk of the output")
+unfoldable pub WholesAgree : Type 1
+WholesAgree =
+    (A : Type 0) (F : ℕ → A) (code : ℕ) (t : Tables) (s : List ℕ) (start i : ℕ) (out : List A) (v : Variable)
+    → Typed code t i v
+    → Accepts (wholeRead F code t s start i out)
+    → (k : ℕ) (room : List A)
+    → k < v .records
+    → v .chunk ≤ length room
+    → Accepts (recordRead F code t s start i k room)
+    × ((e : ℕ) (z : A) → e < v .chunk → getD (outputOf out (wholeRead F code t s start i out)) (k * v .chunk + e) z ≡ getD (outputOf room (recordRead F code t s start i k room)) e z)
