@@ -1,26 +1,26 @@
 -- What holds of reads.
-use Prim.Native.Nat.{ℕ, _+_, _*_, _≤_, _<_}
+use Prim.Native.Nat.{ℕ, _+_, _-_, _*_, _≤_, _<_}
 use native.Mathlib.Omega.{arith}
-use native.Mathlib.Nat.{le-refl}
 use mathlib.Core.Path.{_≡_, refl, sym, ap, subst, _∙_}
 use mathlib.Core.Bool.{Bool, true, false, _||_}
 use mathlib.Core.List.{List, _++_}
 use lib.ListN.{length, getD, drop, List·getD-append}
-use lib.Dec.{eqb}
-use borrow.Author.Tests.{le-leb, lt-ltb, ltb-true, ne-eqb, eqb-true}
+use lib.Dec.{ltb, leb, eqb}
+use borrow.Author.Tests.{le-leb, lt-ltb, ltb-true}
 use Rattle.cdf.specs.Step.{Step, got, stop, bind, test}
-use Rattle.cdf.proofs.Laws.Step.{by-got, by-true, bind-came, test-came, got-same}
+use Rattle.cdf.proofs.Laws.Step.{by-got, by-true, got-same}
 use Rattle.items.specs.Types.{typeOf}
 use Rattle.decode.specs.Lists.{tab, table}
-use Rattle.decode.proofs.Laws.Lists.{length-tab, getD-tab, entry}
-use Rattle.decode.proofs.Laws.Room.{every-record}
+use Rattle.decode.proofs.Laws.Lists.{length-tab, getD-tab, tab-ext, entry}
 use Rattle.grammar.specs.declared.tables.Tables.{Tables}
-use Rattle.reads.specs.Variable.{sought, soughtAs}
-use Rattle.reads.specs.Values.{recordAt, elementAt, bits, holds, wholeBytes, numberOf, outputOf, recordRead, wholeRead}
+use Rattle.reads.specs.Variable.{soughtAs}
+use Rattle.reads.specs.Values.{recordAt, elementAt, bits, holds, wholeBytes, elementSpot, numberOf, outputOf, recordRead, wholeRead}
 use Rattle.reads.specs.Element.{valueOf, elementOf, elementRead, elementReadAs}
 use Rattle.reads.specs.declared.variable.Variable.{Variable}
-use Rattle.reads.proofs.Laws.Values.{held, element-in, spot-at}
-use Rattle.demands.specs.ValueReads.{Accepts, Untouched, RefusalsLeaveOutputs, Typed, ElementsAgree, RecordsAgree, WholesAgree}
+use Rattle.reads.proofs.Laws.Variable.{typed-came}
+use Rattle.reads.proofs.Laws.Values.{held, held-by, each-held, whole-held, same-number, element-in, spot-at}
+use Rattle.reads.proofs.Laws.Filled.{bind-same, table-ext}
+use Rattle.demands.specs.ValueReads.{Accepts, Untouched, RefusalsLeaveOutputs, Typed, ElementsAgree, RecordsAgree, WholesAgree, Share, ElementsAreLocal, RecordsAreLocal, WholesAreLocal}
 
 -- ---- refusals
 untouched : {A : Type 0} (out : List A) (y : Step (List A)) → Untouched out y
@@ -40,23 +40,9 @@ unfolding test
 passed {t = true} k p n e = (refl, e, refl)
 passed {t = false} k p n e = absurd (n e)
 
-holds-from : (have start at n : ℕ) → start ≤ at → at + n ≤ start + have → holds have start at n ≡ true
-unfolding holds
-holds-from have start at n h l = rw (le-leb start at h) (le-leb (at + n) (start + have) l)
-
--- ---- the variable of a typed read is the one that is sought, and has the type
-came : (code : ℕ) (t : Tables) (i : ℕ) {v : Variable} → Typed code t i v → {Q : Type 0} → ((n : ℕ) → sought t i ≡ got v n → v .code ≡ code → Q) → Q
-unfolding soughtAs
-came code t i {v} e {Q} k =
-    bind-came (sought t i) _ (sym e) Q
-    (λ u n f g.
-    let q = test-came 17 0 g in
-    let same : v ≡ u = got-same (q .1) in
-    k n (sym f ∙ ap (λ (x : Variable). got x n) (sym same)) (ap (λ (x : Variable). x .code) same ∙ eqb-true _ _ (q .0)))
-
 pub elements-agree : ElementsAgree
 unfolding ElementsAgree elementRead elementReadAs
-elements-agree code t s start i r e v is = came code t i is (λ n f _. bound _ f ∙ sym (bound _ is))
+elements-agree code t s start i r e v is = typed-came code t i (sym is) (λ n f _. bound _ (sym f) ∙ sym (bound _ is))
 
 -- ---- what reads with an output leave
 module _ {A : Type 0} (F : ℕ → A) (code : ℕ) (t : Tables) (s : List ℕ) (start i : ℕ) (out : List A) (v : Variable) (is : Typed code t i v) where
@@ -104,10 +90,10 @@ module _ (code : ℕ) (t : Tables) (s : List ℕ) (start i r e : ℕ) (v : Varia
       → elementReadAs code t s start i r e ≡ got (valueOf (typeOf code) (bits v s start r e)) 0
   unfolding elementReadAs elementOf
   element-inside h l inside =
-      came code t i is (λ n f c.
+      typed-came code t i (sym is) (λ n f c.
       let a = held (length s) start (recordAt v r) (v .chunk * v .width) (sym inside) in
       let b = element-in v e l in
-      let m = holds-from (length s) start (elementAt v r e) (v .width) (omega arith) (omega arith) in
+      let m = held-by (length s) start (elementAt v r e) (v .width) (omega arith) (omega arith) in
       bound _ is ∙ bound _ (sym (spot-at v (length s) start r e h l (sym m))) ∙ ap (λ (k : ℕ). got (valueOf (typeOf k) (bits v s start r e)) 0) c)
 
 pub records-agree : RecordsAgree
@@ -116,24 +102,70 @@ records-agree A F code t s start i r out v is h e z l =
     let p = record-passed F code t s start i out v is r h in
     (element-inside code t s start i r e v is (p .0) l (p .1), record-entry F code t s start i out v is r (p .2) e z l)
 
--- where a window holds the value bytes of a whole variable, it holds those of each record
-each-inside : (v : Variable) (have start k : ℕ) → k < v .records → eqb (v .records) 0 || holds have start (v .begin) (wholeBytes v) ≡ true
-    → holds have start (recordAt v k) (v .chunk * v .width) ≡ true
-each-inside v have start k h e =
-    let some : eqb (v .records) 0 ≡ false = ne-eqb (v .records) 0 (λ z. omega arith) in
-    let w : holds have start (v .begin) (wholeBytes v) ≡ true = subst (λ (b : Bool). b || holds have start (v .begin) (wholeBytes v) ≡ true) some e in
-    let a = held have start (v .begin) (wholeBytes v) (sym w) in
-    let m = every-record (v .records) (v .step) (v .chunk * v .width) _ (le-refl (wholeBytes v)) k h in
-    holds-from have start (recordAt v k) (v .chunk * v .width) (omega arith) (omega arith)
-
 pub wholes-agree : WholesAgree
 unfolding WholesAgree
 wholes-agree A F code t s start i out v is h k room l m =
     let w = whole-passed F code t s start i out v is h in
-    let p = record-leaves F code t s start i room v is k l (each-inside v (length s) start k l (w .0)) m in (
+    let p = record-leaves F code t s start i room v is k l (each-held v (length s) start (w .0) k l) m in (
       ap numberOf p,
       λ e z b.
           ap (λ (y : Step (List A)). getD (outputOf out y) (k * v .chunk + e) z) (w .1)
           ∙ entry (λ k e. F (bits v s start k e)) (v .chunk) (v .records) out refl k e z l b
           ∙ sym (record-entry F code t s start i room v is k p e z b),
     )
+
+-- ---- locality
+-- two steps that differ in the place that they give are one to what follows, if that passes the place over
+passed-over : {B : Type 0} (a b : Bool) (p p′ : ℕ) (x : Step B)
+    → bind (test a (test b (got p 0) (stop 19 0)) (stop 18 0)) (λ _ _. x) ≡ bind (test a (test b (got p′ 0) (stop 19 0)) (stop 18 0)) (λ _ _. x)
+unfolding bind test
+passed-over true true p p′ x = refl
+passed-over true false p p′ x = refl
+passed-over false b p p′ x = refl
+
+module _ (s : List ℕ) (start : ℕ) (s′ : List ℕ) (start′ : ℕ) (v : Variable) where
+  -- the bits of an element whose bytes lie in bytes that are shared
+  same-bits : (at n r e : ℕ) → Share s start s′ start′ at n → at ≤ elementAt v r e → elementAt v r e + v .width ≤ at + n → bits v s start r e ≡ bits v s′ start′ r e
+  same-bits at n r e h l m =
+      let a = held (length s) start at n (sym (h .held)) in
+      let b = held (length s′) start′ at n (sym (h .held′)) in
+      same-number (v .width) s s′ start start′ (elementAt v r e) (omega arith) (omega arith) (λ p c d. h .same p (omega arith) (omega arith))
+
+  same-in-record : (r e : ℕ) → Share s start s′ start′ (recordAt v r) (v .chunk * v .width) → e < v .chunk → bits v s start r e ≡ bits v s′ start′ r e
+  same-in-record r e h l = let a = element-in v e l in same-bits (recordAt v r) (v .chunk * v .width) r e h (omega arith) (omega arith)
+
+  same-element : (r e : ℕ) → Share s start s′ start′ (elementAt v r e) (v .width) → elementOf s start r e v ≡ elementOf s′ start′ r e v
+  unfolding elementOf elementSpot test
+  same-element r e h =
+      rw (h .held, h .held′, same-bits (elementAt v r e) (v .width) r e h (omega arith) (omega arith))
+      (passed-over (ltb r (v .records)) (ltb e (v .chunk)) (elementAt v r e - start) (elementAt v r e - start′) _)
+
+pub elements-are-local : ElementsAreLocal
+unfolding ElementsAreLocal elementRead elementReadAs
+elements-are-local t s start s′ start′ i r e v is h =
+    let q = same-element s start s′ start′ v r e h in (
+      bound _ is ∙ q ∙ sym (bound _ is),
+      λ code.
+          bind-same (soughtAs code t i) _ _ (λ u n f.
+          typed-came code t i f (λ m g _.
+          let same : v ≡ u = got-same (sym is ∙ sym g) in
+          subst (λ (x : Variable). elementOf s start r e x ≡ elementOf s′ start′ r e x) same q)),
+    )
+
+pub records-are-local : RecordsAreLocal
+unfolding RecordsAreLocal recordRead test
+records-are-local A F code t s start s′ start′ i r out v is h =
+    let q = tab-ext _ _ (v .chunk) (λ e l. ap F (same-in-record s start s′ start′ v r e h l)) in
+    bound _ is
+    ∙ rw (h .held, h .held′) (ap (λ (l : List A). test (ltb r (v .records)) (test (leb (v .chunk) (length out)) (got (l ++ drop (v .chunk) out) 0) (stop 22 0)) (stop 18 0)) q)
+    ∙ sym (bound _ is)
+
+pub wholes-are-local : WholesAreLocal
+unfolding WholesAreLocal wholeRead test
+wholes-are-local A F code t s start s′ start′ i out v is h =
+    let q = table-ext _ _ (v .chunk) (v .records) (λ k e l m. ap F (same-in-record s start s′ start′ v k e (h k l) m)) in
+    let a = whole-held v (length s) start (λ k l. h k l .held) in
+    let b = whole-held v (length s′) start′ (λ k l. h k l .held′) in
+    bound _ is
+    ∙ rw (a, b) (ap (λ (l : List A). test (leb (v .records * v .chunk) (length out)) (got (l ++ drop (v .records * v .chunk) out) 0) (stop 22 0)) q)
+    ∙ sym (bound _ is)

@@ -1,15 +1,16 @@
--- Reads (01, Records; Answer numbers): refusals leave outputs, and the three kinds of reads agree. `F` is the value that bits stand for, `code`
--- the type that is asked for: the entries of reads/src have `byte` at 1, `number` at 2, `short` at 3, `int` at 4, `float` at 5, `double` at 6,
--- and `number` at 5 and 6 for the bits.
-use Prim.Native.Nat.{ℕ, _+_, _*_, _≤_, _<_}
+-- Reads (01, Records; Answer numbers): refusals leave outputs, the three kinds of reads agree, and no read depends on a byte that it does not
+-- need. `F` is the value that bits stand for, `code` the type that is asked for: the entries of reads/src have `byte` at 1, `number` at 2,
+-- `short` at 3, `int` at 4, `float` at 5, `double` at 6, and `number` at 5 and 6 for the bits.
+use Prim.Native.Nat.{ℕ, _+_, _-_, _*_, _≤_, _<_}
 use mathlib.Core.Path.{_≡_}
+use mathlib.Core.Bool.{true}
 use mathlib.Core.List.{List}
 use lib.ListN.{length, getD}
 use Rattle.cdf.specs.Step.{Step, got}
 use Rattle.items.specs.Types.{typeOf}
 use Rattle.grammar.specs.declared.tables.Tables.{Tables}
-use Rattle.reads.specs.Variable.{soughtAs}
-use Rattle.reads.specs.Values.{bits, numberOf, outputOf, recordRead, wholeRead}
+use Rattle.reads.specs.Variable.{sought, soughtAs}
+use Rattle.reads.specs.Values.{recordAt, elementAt, bits, holds, numberOf, outputOf, recordRead, wholeRead}
 use Rattle.reads.specs.Element.{valueOf, elementRead, elementReadAs}
 use Rattle.reads.specs.declared.variable.Variable.{Variable}
 
@@ -60,3 +61,33 @@ WholesAgree =
     → v .chunk ≤ length room
     → Accepts (recordRead F code t s start i k room)
     × ((e : ℕ) (z : A) → e < v .chunk → getD (outputOf out (wholeRead F code t s start i out)) (k * v .chunk + e) z ≡ getD (outputOf room (recordRead F code t s start i k room)) e z)
+
+-- two windows, the bytes s from the file's position `start` and s′ from start′, hold the n bytes of the file from `at`, the same in both
+pub record Share (s : List ℕ) (start : ℕ) (s′ : List ℕ) (start′ at n : ℕ) : Type 0 where
+  pub held : holds (length s) start at n ≡ true
+  pub held′ : holds (length s′) start′ at n ≡ true
+  pub same : (p : ℕ) → at ≤ p → p < at + n → getD s (p - start) 0 ≡ getD s′ (p - start′) 0
+
+-- 01, Records: "A read needs the value bytes inside the window, never the padding." An element read depends on the element's own bytes alone
+unfoldable pub ElementsAreLocal : Type 0
+ElementsAreLocal =
+    (t : Tables) (s : List ℕ) (start : ℕ) (s′ : List ℕ) (start′ i r e : ℕ) (v : Variable)
+    → sought t i ≡ got v 0
+    → Share s start s′ start′ (elementAt v r e) (v .width)
+    → (elementRead t s start i r e ≡ elementRead t s′ start′ i r e) × ((code : ℕ) → elementReadAs code t s start i r e ≡ elementReadAs code t s′ start′ i r e)
+
+-- a record read depends on the value bytes of the record alone
+unfoldable pub RecordsAreLocal : Type 1
+RecordsAreLocal =
+    (A : Type 0) (F : ℕ → A) (code : ℕ) (t : Tables) (s : List ℕ) (start : ℕ) (s′ : List ℕ) (start′ i r : ℕ) (out : List A) (v : Variable)
+    → Typed code t i v
+    → Share s start s′ start′ (recordAt v r) (v .chunk * v .width)
+    → recordRead F code t s start i r out ≡ recordRead F code t s′ start′ i r out
+
+-- a whole-variable read depends on the value bytes of its records alone, not on what lies between them
+unfoldable pub WholesAreLocal : Type 1
+WholesAreLocal =
+    (A : Type 0) (F : ℕ → A) (code : ℕ) (t : Tables) (s : List ℕ) (start : ℕ) (s′ : List ℕ) (start′ i : ℕ) (out : List A) (v : Variable)
+    → Typed code t i v
+    → ((k : ℕ) → k < v .records → Share s start s′ start′ (recordAt v k) (v .chunk * v .width))
+    → wholeRead F code t s start i out ≡ wholeRead F code t s′ start′ i out

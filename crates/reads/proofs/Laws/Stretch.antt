@@ -12,9 +12,9 @@ use Rattle.grammar.specs.declared.tables.Tables.{Tables}
 use Rattle.header.specs.Records.{isRecord, chunk, chunkBytes, paddedBytes, maxPosition, lastEnd, endOf, endsHold}
 use Rattle.cdf.proofs.Laws.Below.{holds-at}
 use Rattle.reads.specs.Variable.{variable, sought, soughtAs}
-use Rattle.reads.proofs.Laws.Variable.{Holds, tables-parts}
+use Rattle.reads.proofs.Laws.Variable.{Holds, tables-parts, typed-came}
 use Rattle.cdf.specs.Step.{got, stop}
-use Rattle.cdf.proofs.Laws.Step.{by-true, by-false, bind-came, test-came, got-same}
+use Rattle.cdf.proofs.Laws.Step.{by-true, by-false, test-came, got-same}
 use Rattle.reads.specs.Values.{recordAt, holds, wholeBytes}
 use Rattle.reads.specs.Stretch.{Bounded, recordStretch, wholeStretch}
 use Rattle.reads.specs.declared.variable.Variable.{Variable}
@@ -56,10 +56,7 @@ found t i e =
     subst (λ (u : Variable). Bounded u) (sym (got-same (q .1))) (bounded-row t (tables-parts t (p .0)) i (ltb-true _ _ (q .0)))
 
 pub bounded : (code : ℕ) (t : Tables) (i : ℕ) {v : Variable} {n : ℕ} → got v n ≡ soughtAs code t i → Bounded v
-unfolding soughtAs
-bounded code t i {v} e =
-    bind-came (sought t i) _ e (Bounded v)
-    (λ u n f g. let q = test-came 17 0 g in subst (λ (x : Variable). Bounded x) (sym (got-same (q .1))) (found t i f))
+bounded code t i e = typed-came code t i e (λ _ f _. found t i f)
 
 -- where the last record of a variable ends
 pub last-in : (v : Variable) → Bounded v → (v .records ≡ 0 → ⊥) → v .begin + (v .records - 1) * v .step + v .chunk * v .width ≤ 2 ^ 62

@@ -5,11 +5,11 @@ use native.Mathlib.Nat.{le-mul-of-pos-right}
 use mathlib.Core.Path.{_≡_, refl, sym, ap, _∙_}
 use mathlib.Core.Bool.{Bool, true, false, cond}
 use lib.Dec.{leb}
-use borrow.Author.Tests.{lt-leb, le-leb, leb-true, lt-ltb, le-ltb, eq-eqb, ne-eqb}
+use borrow.Author.Tests.{lt-leb, le-leb, leb-true, lt-ltb, le-ltb, eq-eqb, ne-eqb, eqb-true}
 use Rattle.cdf.specs.Below.{allBelow}
 use Rattle.cdf.specs.Step.{got, stop}
 use Rattle.cdf.proofs.Laws.Below.{both, all-hold, one-fails, holds-at}
-use Rattle.cdf.proofs.Laws.Step.{by-true, by-false, by-got, by-stop}
+use Rattle.cdf.proofs.Laws.Step.{by-true, by-false, by-got, by-stop, bind-came, test-came, got-same}
 use Rattle.items.specs.Types.{typeOf, sizeOf}
 use Rattle.grammar.specs.Tables.{varAt}
 use Rattle.grammar.specs.Within.{Shaped, RowShaped}
@@ -139,6 +139,16 @@ module _ (t : Tables) (i : ℕ) where
   pub typed-stop : {k : ℕ} (code : ℕ) → stop k 0 ≡ sought t i → stop k 0 ≡ soughtAs code t i
   unfolding soughtAs
   typed-stop code e = by-stop _ e
+
+-- the variable of a typed read is the one that is sought, and has the type
+pub typed-came : (code : ℕ) (t : Tables) (i : ℕ) {v : Variable} {m : ℕ} → got v m ≡ soughtAs code t i → {Q : Type 0} → ((n : ℕ) → got v n ≡ sought t i → v .code ≡ code → Q) → Q
+unfolding soughtAs
+typed-came code t i {v} e {Q} k =
+    bind-came (sought t i) _ e Q
+    (λ u n f g.
+    let q = test-came 17 0 g in
+    let same : v ≡ u = got-same (q .1) in
+    k n (ap (λ (x : Variable). got x n) same ∙ f) (ap (λ (x : Variable). x .code) same ∙ eqb-true _ _ (q .0)))
 
 pub described : (t : Tables) (v : Var) {n s c w : ℕ} → n ≡ cond (isRecord (t .dims) v) (t .count) 1 → s ≡ recordSize t → c ≡ capped (chunk (t .dims) v) → chunk (t .dims) v ≤ maxChunk
     → w ≡ sizeOf (typeOf (v .code)) → record { begin = v .begin; records = n; step = s; chunk = c; width = w; code = v .code } ≡ variable t v

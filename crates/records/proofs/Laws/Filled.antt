@@ -19,11 +19,12 @@ use Rattle.decode.specs.Values.{rows}
 use Rattle.decode.proofs.Laws.Lists.{tab-ext, row-in}
 use Rattle.decode.proofs.Laws.Room.{every-record}
 use Rattle.grammar.specs.declared.tables.Tables.{Tables}
-use Rattle.reads.specs.Variable.{sought, soughtAs}
+use Rattle.reads.specs.Variable.{soughtAs}
 use Rattle.reads.specs.Values.{recordAt, elementAt, bits, holds, wholeBytes, numberOf, outputOf, recordRead, wholeRead}
 use Rattle.reads.specs.Stretch.{Bounded, recordStretch, wholeStretch, recordOf, wholeOf, filled}
 use Rattle.reads.specs.declared.variable.Variable.{Variable}
 use Rattle.reads.specs.declared.place.Stretch.{Stretch}
+use Rattle.reads.proofs.Laws.Variable.{typed-came}
 use Rattle.reads.proofs.Laws.Values.{held}
 use Rattle.reads.proofs.Laws.Stretch.{bounded}
 
@@ -38,7 +39,7 @@ unfolding bind
 bind-bind (got a n) f g = refl
 bind-bind (stop k p) f g = refl
 
-bind-same : {A B : Type 0} (m : Step A) (f g : A → ℕ → Step B) → ((a : A) (n : ℕ) → got a n ≡ m → f a n ≡ g a n) → bind m f ≡ bind m g
+pub bind-same : {A B : Type 0} (m : Step A) (f g : A → ℕ → Step B) → ((a : A) (n : ℕ) → got a n ≡ m → f a n ≡ g a n) → bind m f ≡ bind m g
 unfolding bind
 bind-same (got a n) f g h = h a n refl
 bind-same (stop k p) f g h = refl
@@ -55,17 +56,10 @@ either false x y e f g = g e
 
 -- ---- the type that was asked for
 typed-width : (code : ℕ) (t : Tables) (i : ℕ) {v : Variable} {n : ℕ} → got v n ≡ soughtAs code t i → v .width ≡ sizeOf (typeOf code)
-unfolding soughtAs
-typed-width code t i {v} e =
-    bind-came (sought t i) _ e (v .width ≡ sizeOf (typeOf code))
-    (λ u m f g.
-    let q = test-came 17 0 g in
-    let same : v ≡ u = got-same (q .1) in
-    let is : v .code ≡ code = ap (λ (x : Variable). x .code) same ∙ eqb-true _ _ (q .0) in
-    bounded code t i e .size ∙ ap (λ (c : ℕ). sizeOf (typeOf c)) is)
+typed-width code t i e = typed-came code t i e (λ _ _ is. bounded code t i e .size ∙ ap (λ (c : ℕ). sizeOf (typeOf c)) is)
 
 -- ---- the values of a part of the window, in the window's own places
-table-ext : {A : Type 0} (g h : ℕ → ℕ → A) (m n : ℕ) → ((k j : ℕ) → k < n → j < m → g k j ≡ h k j) → table g m n ≡ table h m n
+pub table-ext : {A : Type 0} (g h : ℕ → ℕ → A) (m n : ℕ) → ((k j : ℕ) → k < n → j < m → g k j ≡ h k j) → table g m n ≡ table h m n
 unfolding table
 table-ext g h m zero e = refl
 table-ext g h m (suc n) e =
