@@ -12,15 +12,16 @@ use Rattle.cdf.proofs.Laws.Step.{by-got, by-true, got-same}
 use Rattle.items.specs.Types.{typeOf}
 use Rattle.decode.specs.Lists.{tab, table}
 use Rattle.decode.proofs.Laws.Lists.{length-tab, getD-tab, tab-ext, entry}
+use Rattle.grammar.specs.Tables.{varAt}
 use Rattle.grammar.specs.declared.tables.Tables.{Tables}
-use Rattle.reads.specs.Variable.{soughtAs}
+use Rattle.reads.specs.Variable.{tablesHold, variable, sought, soughtAs}
 use Rattle.reads.specs.Values.{recordAt, elementAt, bits, holds, wholeBytes, elementSpot, numberOf, outputOf, recordRead, wholeRead}
 use Rattle.reads.specs.Element.{valueOf, elementOf, elementRead, elementReadAs}
 use Rattle.reads.specs.declared.variable.Variable.{Variable}
 use Rattle.reads.proofs.Laws.Variable.{typed-came}
 use Rattle.reads.proofs.Laws.Values.{held, held-by, each-held, whole-held, same-number, element-in, spot-at}
 use Rattle.reads.proofs.Laws.Filled.{bind-same, table-ext}
-use Rattle.demands.specs.ValueReads.{Accepts, Untouched, RefusalsLeaveOutputs, Typed, ElementsAgree, RecordsAgree, WholesAgree, Share, ElementsAreLocal, RecordsAreLocal, WholesAreLocal}
+use Rattle.demands.specs.ValueReads.{Accepts, Untouched, RefusalsLeaveOutputs, Typed, AcceptedIsTyped, ElementsAgree, RecordsAgree, WholesAgree, Share, ElementsAreLocal, RecordsAreLocal, WholesAreLocal}
 
 -- ---- refusals
 untouched : {A : Type 0} (out : List A) (y : Step (List A)) → Untouched out y
@@ -39,6 +40,30 @@ passed : {A : Type 0} {t : Bool} {x : Step A} (k p : ℕ) → (k ≡ 0 → ⊥) 
 unfolding test
 passed {t = true} k p n e = (refl, e, refl)
 passed {t = false} k p n e = absurd (n e)
+
+-- ---- the variable of a typed read
+module _ (code : ℕ) {B : Type 0} (f : Variable → ℕ → Step B) where
+  last : (u : Variable) (c : Bool) → Accepts (bind (test c (got u 0) (stop 17 0)) f) → (v : Variable) × (test c (got u 0) (stop 17 0) ≡ got v 0)
+  unfolding bind test
+  last u true h = (u, refl)
+  last u false h = let z : _≡_ {A = ℕ} 17 0 = h in absurd (omega arith)
+
+  abbrev asked : Variable → Bool → Bool → Step Variable
+  asked u a b = bind (test a (test b (got u 0) (stop 16 0)) (stop 23 0)) (λ v _. test (eqb (v .code) code) (got v 0) (stop 17 0))
+
+  first : (u : Variable) (a b : Bool) → Accepts (bind (asked u a b) f) → (v : Variable) × (asked u a b ≡ got v 0)
+  unfolding bind test
+  first u true true h = last u (eqb (u .code) code) h
+  first u true false h = let z : _≡_ {A = ℕ} 16 0 = h in absurd (omega arith)
+  first u false b h = let z : _≡_ {A = ℕ} 23 0 = h in absurd (omega arith)
+
+  accepted : (t : Tables) (i : ℕ) → Accepts (bind (soughtAs code t i) f) → (v : Variable) × Typed code t i v
+  unfolding soughtAs sought
+  accepted t i h = first (variable t (varAt t i)) (tablesHold t) (ltb i (t .nvars)) h
+
+pub accepted-is-typed : AcceptedIsTyped
+unfolding AcceptedIsTyped recordRead wholeRead
+accepted-is-typed A F code t s start i out = (λ r. accepted code _ t i, accepted code _ t i)
 
 pub elements-agree : ElementsAgree
 unfolding ElementsAgree elementRead elementReadAs

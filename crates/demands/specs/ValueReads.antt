@@ -32,6 +32,13 @@ RefusalsLeaveOutputs =
 abbrev pub Typed : ℕ → Tables → ℕ → Variable → Type 0
 Typed code t i v = soughtAs code t i ≡ got v 0
 
+-- a read that accepts has such a variable (01, Order of reads: 23, 16 and 17 before all else)
+unfoldable pub AcceptedIsTyped : Type 1
+AcceptedIsTyped =
+    (A : Type 0) (F : ℕ → A) (code : ℕ) (t : Tables) (s : List ℕ) (start i : ℕ) (out : List A)
+    → ((r : ℕ) → Accepts (recordRead F code t s start i r out) → (v : Variable) × Typed code t i v)
+    × (Accepts (wholeRead F code t s start i out) → (v : Variable) × Typed code t i v)
+
 -- a read of unasked type answers as the read of the variable's own type
 unfoldable pub ElementsAgree : Type 0
 ElementsAgree =
