@@ -8,10 +8,10 @@ use lib.ListN.{length, getD, drop, List·getD-append}
 use lib.Dec.{ltb, leb, eqb}
 use borrow.Author.Tests.{le-leb, lt-ltb, ltb-true}
 use Rattle.cdf.specs.Step.{Step, got, stop, bind, test}
-use Rattle.cdf.proofs.Laws.Step.{by-got, by-true, got-same}
+use Rattle.cdf.proofs.Laws.Step.{bind-same, by-got, by-true, got-same}
 use Rattle.items.specs.Types.{typeOf}
 use Rattle.decode.specs.Lists.{tab, table}
-use Rattle.decode.proofs.Laws.Lists.{length-tab, getD-tab, tab-ext, entry}
+use Rattle.decode.proofs.Laws.Lists.{table-ext, length-tab, getD-tab, tab-ext, entry}
 use Rattle.grammar.specs.Tables.{varAt}
 use Rattle.grammar.specs.declared.tables.Tables.{Tables}
 use Rattle.reads.specs.Variable.{tablesHold, variable, sought, soughtAs}
@@ -20,7 +20,6 @@ use Rattle.reads.specs.Element.{valueOf, elementOf, elementRead, elementReadAs}
 use Rattle.reads.specs.declared.variable.Variable.{Variable}
 use Rattle.reads.proofs.Laws.Variable.{typed-came}
 use Rattle.reads.proofs.Laws.Values.{held, held-by, each-held, whole-held, same-number, element-in, spot-at}
-use Rattle.reads.proofs.Laws.Filled.{bind-same, table-ext}
 use Rattle.demands.specs.ValueReads.{Accepts, Untouched, RefusalsLeaveOutputs, Typed, AcceptedIsTyped, ElementsAgree, RecordsAgree, WholesAgree, Share, ElementsAreLocal, RecordsAreLocal, WholesAreLocal}
 
 -- ---- refusals

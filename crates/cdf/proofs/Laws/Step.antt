@@ -93,3 +93,30 @@ module _ {S : Type 0} (f : S → ℕ → Step S) (n i : ℕ) (st : S) (at : ℕ)
   pub many-done : n ≤ i → got st at ≡ many f (n - i) st at
   unfolding many
   many-done h = let z : n - i ≡ 0 = omega arith in sym (ap (λ (k : ℕ). many f k st at) z)
+
+-- a step after a check, after a step, and after one of the same answer; a check of the same outcome
+pub bind-test : {A B : Type 0} (b : Bool) (x y : Step A) (f : A → ℕ → Step B) → bind (test b x y) f ≡ test b (bind x f) (bind y f)
+unfolding test
+bind-test true x y f = refl
+bind-test false x y f = refl
+
+pub bind-bind : {A B C : Type 0} (m : Step A) (f : A → ℕ → Step B) (g : B → ℕ → Step C) → bind (bind m f) g ≡ bind m (λ a n. bind (f a n) g)
+unfolding bind
+bind-bind (got a n) f g = refl
+bind-bind (stop k p) f g = refl
+
+pub bind-same : {A B : Type 0} (m : Step A) (f g : A → ℕ → Step B) → ((a : A) (n : ℕ) → got a n ≡ m → f a n ≡ g a n) → bind m f ≡ bind m g
+unfolding bind
+bind-same (got a n) f g h = h a n refl
+bind-same (stop k p) f g h = refl
+
+pub test-same : {A : Type 0} (b : Bool) {x z : Step A} (y : Step A) → (b ≡ true → x ≡ z) → test b x y ≡ test b z y
+unfolding test
+test-same true y h = h refl
+test-same false y h = refl
+
+-- a step that was taken came by one side of a check
+pub either : {A : Type 0} {a : A} {n : ℕ} (b : Bool) (x y : Step A) {Q : Type 0} → got a n ≡ test b x y → (got a n ≡ x → Q) → (got a n ≡ y → Q) → Q
+unfolding test
+either true x y e f g = f e
+either false x y e f g = g e

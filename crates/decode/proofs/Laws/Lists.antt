@@ -80,3 +80,11 @@ module _ {A : Type 0} (g : ℕ → ℕ → A) (m n : ℕ) (d₀ : List A) {d : L
 
   pub after : drop (n * m) d ≡ drop (n * m) d₀
   after = rw is (drop-at (table g m n) (drop (n * m) d₀) (n * m) (length-table g m n))
+
+pub table-ext : {A : Type 0} (g h : ℕ → ℕ → A) (m n : ℕ) → ((k j : ℕ) → k < n → j < m → g k j ≡ h k j) → table g m n ≡ table h m n
+unfolding table
+table-ext g h m zero e = refl
+table-ext g h m (suc n) e =
+    let a = table-ext g h m n (λ k j l. e k j (omega arith)) in
+    let b = tab-ext (g n) (h n) m (λ j. e n j (omega arith)) in
+    cc

@@ -12,11 +12,11 @@ use borrow.Rule.Slice.PartMut.{mid-len}
 use Rattle.bigendian.specs.Number.{be}
 use Rattle.bigendian.proofs.Laws.Number.{be-part}
 use Rattle.cdf.specs.Step.{Step, got, stop, bind, test}
-use Rattle.cdf.proofs.Laws.Step.{bind-came, test-came, got-same}
+use Rattle.cdf.proofs.Laws.Step.{bind-came, test-came, got-same, bind-test, bind-bind, bind-same, test-same, either}
 use Rattle.items.specs.Types.{typeOf, sizeOf}
 use Rattle.decode.specs.Lists.{tab, table}
 use Rattle.decode.specs.Values.{rows}
-use Rattle.decode.proofs.Laws.Lists.{tab-ext, row-in}
+use Rattle.decode.proofs.Laws.Lists.{table-ext, row-in}
 use Rattle.decode.proofs.Laws.Room.{every-record}
 use Rattle.grammar.specs.declared.tables.Tables.{Tables}
 use Rattle.reads.specs.Variable.{soughtAs}
@@ -28,45 +28,11 @@ use Rattle.reads.proofs.Laws.Variable.{typed-came}
 use Rattle.reads.proofs.Laws.Values.{held}
 use Rattle.reads.proofs.Laws.Stretch.{bounded}
 
--- ---- steps
-bind-test : {A B : Type 0} (b : Bool) (x y : Step A) (f : A → ℕ → Step B) → bind (test b x y) f ≡ test b (bind x f) (bind y f)
-unfolding test
-bind-test true x y f = refl
-bind-test false x y f = refl
-
-bind-bind : {A B C : Type 0} (m : Step A) (f : A → ℕ → Step B) (g : B → ℕ → Step C) → bind (bind m f) g ≡ bind m (λ a n. bind (f a n) g)
-unfolding bind
-bind-bind (got a n) f g = refl
-bind-bind (stop k p) f g = refl
-
-pub bind-same : {A B : Type 0} (m : Step A) (f g : A → ℕ → Step B) → ((a : A) (n : ℕ) → got a n ≡ m → f a n ≡ g a n) → bind m f ≡ bind m g
-unfolding bind
-bind-same (got a n) f g h = h a n refl
-bind-same (stop k p) f g h = refl
-
-test-same : {A : Type 0} (b : Bool) {x z : Step A} (y : Step A) → (b ≡ true → x ≡ z) → test b x y ≡ test b z y
-unfolding test
-test-same true y h = h refl
-test-same false y h = refl
-
-either : {A : Type 0} {a : A} {n : ℕ} (b : Bool) (x y : Step A) {Q : Type 0} → got a n ≡ test b x y → (got a n ≡ x → Q) → (got a n ≡ y → Q) → Q
-unfolding test
-either true x y e f g = f e
-either false x y e f g = g e
-
 -- ---- the type that was asked for
 typed-width : (code : ℕ) (t : Tables) (i : ℕ) {v : Variable} {n : ℕ} → got v n ≡ soughtAs code t i → v .width ≡ sizeOf (typeOf code)
 typed-width code t i e = typed-came code t i e (λ _ _ is. bounded code t i e .size ∙ ap (λ (c : ℕ). sizeOf (typeOf c)) is)
 
 -- ---- the values of a part of the window, in the window's own places
-pub table-ext : {A : Type 0} (g h : ℕ → ℕ → A) (m n : ℕ) → ((k j : ℕ) → k < n → j < m → g k j ≡ h k j) → table g m n ≡ table h m n
-unfolding table
-table-ext g h m zero e = refl
-table-ext g h m (suc n) e =
-    let a = table-ext g h m n (λ k j l. e k j (omega arith)) in
-    let b = tab-ext (g n) (h n) m (λ j. e n j (omega arith)) in
-    cc
-
 module _ {A : Type 0} (F : ℕ → A) (w : ℕ) (s : List ℕ) where
   table-of-part : (at n m stride : ℕ) (pos : ℕ → ℕ → ℕ) → ((k : ℕ) → k < n → k * stride + w * m ≤ length s - at) → ((k j : ℕ) → k < n → at + (k * stride + w * j) ≡ pos k j)
       → table (rows F w (take (length s - at) (drop at s)) stride) m n ≡ table (λ k j. F (be w s (pos k j))) m n
