@@ -1,4 +1,5 @@
-//! Headers to read: version 1, one unlimited dimension and up to eight fixed ones, variables of all types.
+//! Headers to read: version 1, one unlimited dimension and up to eight fixed ones, variables of all types. Each driver uses some.
+#![allow(dead_code)]
 
 fn word(out: &mut Vec<u8>, n: usize) {
     out.extend((n as u32).to_be_bytes());
@@ -76,7 +77,6 @@ fn var(out: &mut Vec<u8>, name: &str, ids: &[usize], code: usize, begin: usize) 
 }
 
 /// The header of a file with one fixed variable of `values` values, which stand right after it.
-#[allow(dead_code)]
 pub fn one_fixed(code: usize, values: usize) -> Vec<u8> {
     let build = |begin| {
         let mut out = Vec::new();
@@ -88,7 +88,6 @@ pub fn one_fixed(code: usize, values: usize) -> Vec<u8> {
 }
 
 /// The header of a file with `count` records of two float variables, of `chunk` and of `other` values, which stand right after it.
-#[allow(dead_code)]
 pub fn two_records(count: usize, chunk: usize, other: usize) -> Vec<u8> {
     let build = |begin| {
         let mut out = Vec::new();
@@ -101,7 +100,6 @@ pub fn two_records(count: usize, chunk: usize, other: usize) -> Vec<u8> {
 }
 
 /// The header of a file of full tables: 64 variables over 8 dimensions of length 2.
-#[allow(dead_code)]
 pub fn full() -> Vec<u8> {
     let names: Vec<String> = (0..32).map(|k| format!("d{k}")).collect();
     let dims: Vec<(&str, usize)> = names.iter().map(|n| (n.as_str(), 2)).collect();

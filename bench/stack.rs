@@ -1,10 +1,12 @@
-//! The stack that the header reader takes: a thread's stack is painted from below, the header is read, and the paint that is
-//! left is counted. Prints bytes for each header, and for one that is refused.
+//! The stack that the exported entries take: a thread's stack is painted from below, the entry is called, and the paint that is left is
+//! counted. Prints bytes for each header, for one that is refused, and for reads of values, which read the header first.
 
 mod headers;
 
 extern "C" {
     fn fungal_read_header(prefix: *const u8, len: usize, size: u64, numbers: *mut u64, room: usize) -> u8;
+    fn fungal_read_var_f32(file: *const u8, len: usize, var: usize, out: *mut f32, room: usize) -> u8;
+    fn fungal_element_answer(file: *const u8, len: usize, var: usize, record: u64, element: u64, more: usize) -> u8;
 }
 
 const PAINTED: usize = 2 << 20;
@@ -32,22 +34,39 @@ fn used((start, end): (usize, usize)) -> usize {
     end - at
 }
 
-fn measure(bytes: Vec<u8>) -> usize {
-    let thread = std::thread::Builder::new().stack_size(2 * PAINTED);
+fn measure(entry: impl FnOnce() + Send + 'static) -> usize {
     let work = move || {
-        let mut numbers = [0u64; 8];
         let painted = paint();
-        unsafe { fungal_read_header(bytes.as_ptr(), bytes.len(), bytes.len() as u64, numbers.as_mut_ptr(), 8) };
+        entry();
         used(painted)
     };
-    thread.spawn(work).expect("a thread").join().expect("the measure")
+    std::thread::Builder::new().stack_size(2 * PAINTED).spawn(work).expect("a thread").join().expect("the measure")
+}
+
+fn show(name: &str, entry: impl FnOnce() + Send + 'static) {
+    let n = measure(entry);
+    println!("{name:28} {n:10}{}", if n < LIMIT { "" } else { "  over" });
+}
+
+fn header(bytes: Vec<u8>) {
+    let mut numbers = [0u64; 8];
+    unsafe { fungal_read_header(bytes.as_ptr(), bytes.len(), bytes.len() as u64, numbers.as_mut_ptr(), 8) };
 }
 
 fn main() {
-    let mut cases: Vec<(&str, Vec<u8>)> = headers::measured().into_iter().map(|(name, bytes, ..)| (name, bytes)).collect();
-    cases.push(("no header", b"CDX".to_vec()));
-    for (name, bytes) in cases {
-        let n = measure(bytes);
-        println!("{name:28} {n:10}{}", if n < LIMIT { "" } else { "  over" });
+    for (name, bytes, ..) in headers::measured() {
+        show(name, move || header(bytes));
     }
+    show("no header", || header(b"CDX".to_vec()));
+    let mut file = headers::one_fixed(5, 4);
+    file.resize(file.len() + 16, 0);
+    show("a whole variable", move || {
+        let mut out = [0f32; 4];
+        assert_eq!(unsafe { fungal_read_var_f32(file.as_ptr(), file.len(), 0, out.as_mut_ptr(), 4) }, 0);
+    });
+    let mut file = headers::full();
+    file.resize(file.len().max(4096), 0);
+    show("an element, full tables", move || {
+        assert_eq!(unsafe { fungal_element_answer(file.as_ptr(), file.len(), 40, 0, 5, 1) }, 0);
+    });
 }

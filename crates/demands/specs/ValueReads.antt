@@ -1,5 +1,5 @@
 -- Reads (01, Records; Answer numbers): refusals leave outputs, the three kinds of reads agree, and no read depends on a byte that it does not
--- need. `F` is the value that bits stand for, `code` the type that is asked for: the entries of reads/src have `byte` at 1, `number` at 2,
+-- need. `F` is the value that bits stand for, `code` the type that is asked for: the entries of reads/src and records/src have `byte` at 1, `number` at 2,
 -- `short` at 3, `int` at 4, `float` at 5, `double` at 6, and `number` at 5 and 6 for the bits.
 use Prim.Native.Nat.{ℕ, _+_, _-_, _*_, _≤_, _<_}
 use mathlib.Core.Path.{_≡_}
