@@ -22,6 +22,7 @@ pub fn against(runs: usize, mut theirs: impl FnMut(), mut ours: impl FnMut()) ->
 }
 
 /// A line of the table; `over` where the ratio is above its target.
+#[allow(dead_code)] // one driver has a line of its own
 pub fn line(name: &str, theirs: f64, ours: f64, target: f64) {
     let ratio = ours / theirs;
     let verdict = if ratio <= target { "" } else { "  over" };

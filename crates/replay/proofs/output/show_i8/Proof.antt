@@ -1,0 +1,62 @@
+use borrow.Author.Needs.{needs}
+use lib.ListN.{length}
+use Prim.Native.Nat.{_-_, _≤_}
+use Rattle.replay.proofs.output.show_i8.Statement.{statement}
+use Rattle.replay.proofs.output.show_i8.Tie as tie
+
+abbrev Inv-loop : tie.InvT-loop
+Inv-loop number values i₀ t4 i = i ≤ length values
+
+abbrev μ-loop : tie.MeasureT-loop
+μ-loop number values i₀ t4 i = length values - i
+
+wide-requires : tie.Need-wide-requires Inv-loop μ-loop
+wide-requires c κs = search needs
+
+print-decimal-requires : tie.Need-print-decimal-requires Inv-loop μ-loop
+print-decimal-requires c κs = search needs
+
+loop-holds : tie.Need-loop-holds Inv-loop μ-loop
+loop-holds c = search needs
+
+shared-slice-copy-out-show-byte : tie.Need-shared-slice-copy-out-show-byte Inv-loop μ-loop
+shared-slice-copy-out-show-byte c = search needs
+
+show-byte-requires : tie.Need-show-byte-requires Inv-loop μ-loop
+show-byte-requires c κs = search needs
+
+add-i : tie.Need-add-i Inv-loop μ-loop
+add-i c = search needs
+
+loop-less : tie.Need-loop-less Inv-loop μ-loop
+loop-less c = search needs
+
+loop-again : tie.Need-loop-again Inv-loop μ-loop
+loop-again c = search needs
+
+slice-aggregate-write-all : tie.Need-slice-aggregate-write-all Inv-loop μ-loop
+slice-aggregate-write-all c = search needs
+
+write-all-requires : tie.Need-write-all-requires Inv-loop μ-loop
+write-all-requires c κs = search needs
+
+returns : tie.Need-returns Inv-loop μ-loop
+returns c = search needs
+
+pub show-i8-spec : {M : Type 1} → statement M
+show-i8-spec =
+    tie.close
+    (tie.spec
+    Inv-loop
+    μ-loop
+    wide-requires
+    print-decimal-requires
+    loop-holds
+    shared-slice-copy-out-show-byte
+    show-byte-requires
+    add-i
+    loop-less
+    loop-again
+    slice-aggregate-write-all
+    write-all-requires
+    returns)

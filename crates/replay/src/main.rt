@@ -1,0 +1,163 @@
+// Runs the header reader and the reads on recorded files. A line of standard input is a letter, a
+// space and what the letter takes: the bytes of a file in hexadecimal, or numbers in decimal.
+//     f HEX                      a file: number, place, record count and end of its header
+//     w FROM TO                  the window is these bytes of the file, until the next file
+//     e VAR RECORD ELEMENT       an element of whatever type
+//     t VAR RECORD ELEMENT CODE  an element of a variable that must have the type
+//     r VAR RECORD CODE ROOM     a record, into an output of so many elements
+//     a VAR 0 CODE ROOM          all records
+// The other letters change a number of the tables (tables.rt). tests/replay.py writes the lines and
+// what is expected.
+ghost use Prim.Native.Nat.{_≤_};
+ghost use lib.ListN.{length};
+ghost use Rattle.hexlines.specs.Cut.{kept};
+use crate::element::show_element;
+use crate::element::show_typed;
+use crate::output::Ask;
+use crate::output::show_output;
+use crate::tables::changed;
+use crate::text::least;
+use crate::text::numbers;
+use crate::text::show_last;
+use crate::text::show_number;
+use crate::text::wide;
+use cdf::version::Admitted;
+use grammar::tables::Tables;
+use grammar::tables::blank;
+use header::reader::read_header;
+use hexlines::cut::cut_line;
+use hexlines::line::Line;
+use hexlines::line::line_answer;
+
+mod element;
+mod output;
+mod tables;
+mod text;
+
+// The last file's tables and size, and the window on its bytes.
+struct Held {
+    tables: Tables,
+    size: usize,
+    from: usize,
+    to: usize,
+}
+
+// The header of a file, and the window that holds all of it.
+fn opened(bytes: &[u8]) -> Held {
+    let admitted = Admitted {
+        classic: true,
+        offset64: true,
+    };
+    let h = read_header(bytes, bytes.len() as u64, admitted);
+    let tables = h.tables;
+    show_number(wide(h.number));
+    show_number(h.place as u64);
+    show_number(tables.count);
+    show_last(h.end as u64);
+    let size = bytes.len();
+    Held {
+        tables,
+        size,
+        from: 0,
+        to: size,
+    }
+}
+
+fn nothing() -> Held {
+    Held {
+        tables: blank(),
+        size: 0,
+        from: 0,
+        to: 0,
+    }
+}
+
+// The file that the digits spell, whose bytes go to the start of `file`.
+fn loaded(digits: &[u8], file: &mut [u8]) -> Held
+    requires { ⌜ 8192 ≤ length (now file) ⌝ }
+{
+    match line_answer(digits, file) {
+        Line::File(n) => opened(&file[..n]),
+        _ => nothing(),
+    }
+}
+
+// A read of the variable that `a` numbers, out of the bytes `s` of the file from the position `start` on.
+fn read(kind: u8, a: [u64; 4], t: Tables, s: &[u8], start: u64) {
+    match kind {
+        b'e' => show_element(t, s, start, a),
+        b't' => show_typed(t, s, start, a),
+        _ => {
+            let ask = Ask {
+                all: kind == b'a',
+                var: a[0] as usize,
+                record: a[1],
+                code: a[2],
+                room: least(a[3] as usize, 64),
+            };
+            show_output(t, s, start, ask);
+        }
+    }
+}
+
+// What a line with the letter `kind` and the numbers `a` asks of the last file.
+fn asked(kind: u8, a: [u64; 4], file: &[u8], held: Held) -> Held {
+    let tables = held.tables;
+    match kind {
+        b'w' => Held {
+            tables,
+            size: held.size,
+            from: a[0] as usize,
+            to: least(a[1] as usize, held.size),
+        },
+        b'e' | b't' | b'r' | b'a' => {
+            let to = least(held.to, file.len());
+            let from = least(held.from, to);
+            read(kind, a, tables, &file[from..to], from as u64);
+            held
+        }
+        _ => {
+            let t = changed(kind, a, tables);
+            Held {
+                tables: t,
+                size: held.size,
+                from: held.from,
+                to: held.to,
+            }
+        }
+    }
+}
+
+fn line(text: &[u8], file: &mut [u8], held: Held) -> Held
+    requires { ⌜ 8192 ≤ length (now file) ⌝ }
+{
+    if text.len() < 2 {
+        return held;
+    }
+    let kind = text[0];
+    if kind == b'f' {
+        return loaded(&text[2..], file);
+    }
+    asked(kind, numbers(&text[2..]), file, held)
+}
+
+fn lines(text: &[u8], buffer: &mut [u8], file: &mut [u8])
+    requires { ⌜ (kept ≤ length (now buffer)) × (8192 ≤ length (now file)) ⌝ }
+{
+    let mut held = nothing();
+    let mut at = 0;
+    while at < text.len() {
+        let cut = cut_line(text, at, buffer, 0);
+        let chars = cut.held;
+        held = line(&buffer[..chars], file, held);
+        at = cut.next;
+    }
+}
+
+fn main() {
+    let mut text = [0u8; 262144];
+    let mut buffer = [0u8; 16385];
+    let mut file = [0u8; 8192];
+    let n = io::read_full(0, &mut text);
+    lines(&text[..n], &mut buffer, &mut file);
+}

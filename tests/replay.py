@@ -1,0 +1,337 @@
+#!/usr/bin/env python3
+"""Writes crates/replay/stdin, recorded files with reads of all their values and probes of each refusal of a read, and
+crates/replay/stdout, what the model answers. With --check it writes nothing and fails where the two files differ from
+what it would write.
+
+The lines are those that crates/replay/src/main.rt and tables.rt name. Values that a file was made of are compared here
+with what the model reads, so that the answers do not rest on the model alone.
+"""
+import math
+import os
+import struct
+import sys
+
+import encode
+import model
+from cases import EMPTY
+from model import OPEN, SIZES
+
+NAMES = {1: "byte", 2: "char", 3: "short", 4: "int", 5: "float", 6: "double"}
+# zeros, ones, both ends of the range; of floats both infinities, the smallest and NaNs with a payload of either sign
+PATTERNS = {
+    1: "01 80 ff 7f 00 2a",
+    2: "41 ff 00 80 7f 0a",
+    3: "0001 8000 ffff 7fff 0000 1234 fffe",
+    4: "00000001 80000000 ffffffff 7fffffff 00000000 fffffffe 01020304",
+    5: "3f800000 7fa00001 ffc12345 80000000 7f800000 ff800000 00000001 807fffff c0490fdb 7fc00000",
+    6: "3ff0000000000000 7ff0000000000001 fff8123456789abc 8000000000000000 7ff0000000000000 fff0000000000000 0000000000000001 c00921fb54442d18",
+}
+# how a code of an output's read shows: the type read, the value of an element that is not written
+CODES = {1: (1, "99"), 2: (2, "99"), 3: (3, "99"), 4: (4, "99"), 5: (5, f"{99:08x}"), 6: (6, f"{99:016x}"), 7: (5, "3f800000"), 8: (6, "3ff0000000000000")}
+GAP = b"\xee"  # what stands between values: a read that takes it for one shows
+
+
+def is_nan(data):
+    return math.isnan(struct.unpack(">f" if len(data) == 4 else ">d", data)[0])
+
+
+def shown(code, data):
+    """A value as an output shows it."""
+    if code in (1, 3, 4):
+        return str(int.from_bytes(data, "big", signed=True))
+    if code == 2:
+        return str(data[0])
+    return "nan" if code > 6 and is_nan(data) else data.hex()
+
+
+def element_text(code, data):
+    more = " " + shown(code + 2, data) if code > 4 else ""
+    return f"{NAMES[code]} {shown(code, data)}{more}"
+
+
+# ---- files with values ----
+
+
+def made(dims, vars, records=0, word=None, version=1, cut=0, late=0):
+    """A file of variables (name, ids, type), and the values of each variable and record. `late` bytes stand between the
+    header and the values, `cut` bytes are missing at the end."""
+    t = encode.tables(dims, [(*row, 0) for row in vars], word=records if word is None else word, version=version)
+    start, data, values = len(encode.header(t)), bytearray(GAP * late), {}
+
+    def put(i, record):
+        patterns, n = PATTERNS[t.vars[i].type].split(), model.chunk(t, t.vars[i])
+        first = len(vars) + 3 * version + i + record * n
+        values[i, record] = [bytes.fromhex(patterns[(first + k) % len(patterns)]) for k in range(n)]
+        chunk = b"".join(values[i, record])
+        data.extend(chunk + GAP * (-len(chunk) % 4))
+
+    moving = [i for i, var in enumerate(t.vars) if model.is_record(t, var)]
+    for i, var in enumerate(t.vars):
+        if i not in moving:
+            var.begin = start + len(data)
+            put(i, 0)
+    for record in range(max(records, 1)):
+        for i in moving:
+            if record == 0:
+                t.vars[i].begin = start + len(data)
+            if record < records:
+                put(i, record)
+    whole = encode.header(t) + bytes(data)
+    return whole[: len(whole) - cut], values
+
+
+T, A, B = (b"t", 0), (b"a", 5), (b"b", 3)
+
+
+def files():
+    dims = [A, T, B]
+    for code in SIZES:
+        other = code % 6 + 1
+        for version in (1, 2):
+            yield made(dims, [(b"s", [], code), (b"v", [0], code), (b"m", [2, 0], code)], version=version)
+            yield made([T], [(b"x", [0], code)], 3, version=version)
+        yield made(dims, [(b"r", [1, 2], code), (b"f", [0], other), (b"q", [1], other)], 3, version=code % 2 + 1)
+        yield made(dims, [(b"q", [1], other), (b"r", [1, 0], code)], 2, word=OPEN, version=other % 2 + 1)
+        yield made(dims, [(b"r", [1, 2], code)], 0, word=OPEN if code % 2 else 0)
+    all_types = [(NAMES[code].encode(), [], code) for code in SIZES]
+    moving = [(NAMES[code].encode(), [1], code) for code in SIZES]
+    for version in (1, 2):
+        yield made([], all_types, version=version)
+        yield made([A, T], moving, 3, version=version)
+    eight = [(b"d%d" % i, 2 if i in (1, 6) else 1) for i in range(8)]
+    yield made(eight, [(b"v", range(8), 3), (b"w", [1, 6, 1], 1)])
+    yield made([T, *eight[1:]], [(b"v", range(8), 6)], 2, version=2)
+    # values far behind the header, and values that the file is too short for
+    yield made(dims, [(b"r", [1, 2], 3), (b"f", [0], 6)], 2, late=41)
+    yield made(dims, [(b"f", [0], 4), (b"r", [1, 2], 4)], 3, cut=2)
+    yield made(dims, [(b"f", [0], 2)], cut=8)
+
+
+def refused_files():
+    yield from (EMPTY[:31], b"CX", b"CDF\x03")
+    yield encode.file([T, T], [(b"x", [0], 4, 80)], word=1) + bytes(4)
+    yield encode.file([T], [(b"x", [0], 4, 80)], word=OPEN) + bytes(3)
+
+
+# ---- the program by the model ----
+
+
+def numbers_of(t):
+    """The numbers that a line can change, by its letter and row."""
+    numbers = {"v": len(t.vars), "d": len(t.dims), "n": t.count}
+    numbers.update((("l", i), t.dims[i].length if i < len(t.dims) else 0) for i in range(model.DIMS))
+    for i in range(model.VARS):
+        var = t.vars[i] if i < len(t.vars) else model.Var(b"", [], [], 0, 0, 0)
+        first = var.ids[0] if var.ids else 0
+        numbers.update({("c", i): var.type, ("k", i): len(var.ids), ("i", i): first, ("b", i): var.begin % 2**64})
+    return numbers
+
+
+def tables_of(numbers, t):
+    """Tables of these numbers; what no line changes is that of t."""
+
+    def var(i):
+        row = t.vars[i].ids if i < len(t.vars) else []
+        rank, begin = numbers["k", i], numbers["b", i]
+        ids = [numbers["i", i], *row[1:], *[0] * rank][:rank]
+        return model.Var(b"", ids, [], numbers["c", i], 0, begin - 2**64 if begin >> 63 else begin)
+
+    dims = [model.Dim(b"", numbers.get(("l", i), 0)) for i in range(min(numbers["d"], model.DIMS + 1))]
+    vars = [var(min(i, model.VARS - 1)) for i in range(min(numbers["v"], model.VARS + 1))]
+    return model.Tables(t.version, t.word, numbers["n"], t.size, dims, [], vars)
+
+
+class Replay:
+    """The lines so far, and their answers."""
+
+    def __init__(self):
+        self.recorded, self.expected, self.refusals = [], [], {}
+        self.files = self.values = self.outputs = 0
+
+    def line(self, kind, *rest):
+        """Numbers have at most 19 digits."""
+        self.recorded.append(" ".join([kind, *map(str, rest)]))
+
+    def file(self, data):
+        """Whether its header is accepted."""
+        number, place, records, end, self.first = model.read_header(data, len(data))
+        self.numbers = numbers_of(self.first)
+        self.data, self.window, self.tables = data, (0, len(data)), self.first
+        self.line("f", data.hex())
+        self.expected.append(f"{number} {place} {records} {end}")
+        self.files += 1
+        return number == 0
+
+    def change(self, *key):
+        """The number of the tables that the letter and the row before it name."""
+        self.line(*key)
+        *name, value = key
+        self.numbers[tuple(name) if name[1:] else name[0]] = value
+        self.tables = tables_of(self.numbers, self.first)
+
+    def look(self, start, stop):
+        """The window from here on."""
+        self.line("w", start, stop)
+        self.window = (start, stop)
+
+    def asked(self, read, *args, **more):
+        start, stop = self.window
+        number, values = read(self.tables, self.data[start:stop], start, *args, **more)
+        if number:
+            self.refusals[number] = self.refusals.get(number, 0) + 1
+        return number, values
+
+    def element(self, var, record, element, code=None):
+        self.line("t" if code else "e", var, record, element, *[code] if code else [])
+        number, values = self.asked(model.read_element, var, record, element, asked=code)
+        self.values += number == 0
+        self.expected.append(f"refused {number}" if number else element_text(self.tables.vars[var].type, values[0]))
+        return values and values[0]
+
+    def output(self, var, record, code, room):
+        """A record, or all of them where `record` is None."""
+        whole = record is None
+        self.line("a" if whole else "r", var, record or 0, code, room)
+        type, kept = CODES[code]
+        read, args = (model.read_var, []) if whole else (model.read_record, [record])
+        number, values = self.asked(read, var, *args, room, asked=type)
+        texts = [shown(code, value) for value in values or []]
+        self.outputs += 1
+        self.expected.append(" ".join([str(number), *texts, *[kept] * (room - len(texts))]))
+        return values
+
+
+def codes(var):
+    """The codes by which an output takes the variable."""
+    return [var.type, var.type + 2] if var.type > 4 else [var.type]
+
+
+def same(got, laid, data, *where):
+    if got not in (None, laid):
+        sys.exit(f"replay: the model reads {got} at {where} of {data.hex()}, made of {laid}")
+
+
+def all_values(play, values):
+    """Every value three ways: by elements, by records, all at once; and what lies one past each end."""
+    t, data = play.tables, play.data
+    for i, var in enumerate(t.vars):
+        n, records = model.chunk(t, var), model.records(t, var)
+        for r in range(records):
+            for e in range(n):
+                same(play.element(i, r, e), values[i, r][e], data, i, r, e)
+            same(play.element(i, r, 0, var.type), values[i, r][0], data, i, r)
+            for code in codes(var):
+                same(play.output(i, r, code, n + r % 3), values[i, r], data, i, r)
+        for code in codes(var):
+            same(play.output(i, None, code, n * records + 2), sum((values[i, r] for r in range(records)), []), data, i)
+        play.element(i, 0, n)
+        play.element(i, records, 0)
+    play.element(len(t.vars), 0, 0)
+
+
+def refusals(play):
+    """16 to 20 and 22, alone and with a later one beside, which gives way."""
+    t = play.tables
+    for i, var in enumerate(t.vars):
+        n, records, size, other = model.chunk(t, var), model.records(t, var), SIZES[var.type], var.type % 6 + 1
+        play.element(i, 0, 0, other)
+        play.element(i, records, n, other)
+        play.output(i, 0, other, n)
+        play.output(i, None, other, n)
+        play.output(i, records, var.type, 0)
+        play.output(i, 0, var.type, n - 1)
+        play.output(i, None, var.type, max(n * records - 1, 0))
+        play.element(i, 2**63, 2**63)
+        play.element(i, 0, 2**63)
+        last = max(records, 1) - 1
+        at = var.begin + last * model.record_size(t)
+        end = at + n * size
+        for start, stop in ((at, end), (at + 1, end), (at, end - 1), (at + size, end), (at, at)):
+            play.look(start, stop)
+            play.element(i, last, 0)
+            play.element(i, last, n - 1)
+            play.element(i, last, n)
+            play.output(i, last, var.type, n)
+            play.output(i, last, var.type, 0)
+            play.output(i, None, var.type, n * records)
+        play.look(0, len(play.data))
+    for none in (len(t.vars), 64, 2**63):
+        play.element(none, 0, 0)
+        play.element(none, 0, 0, 1)
+        play.output(none, 0, 1, 2)
+        play.output(none, None, 1, 2)
+
+
+def changes(t):
+    """Letter, row and number: tables out of order, by each part of rule 23, and some still in order."""
+    for n in (0, 1, len(t.vars) + 1, 64, 65, 2**63):
+        yield "v", n
+    for n in (0, len(t.dims) - 1, len(t.dims) + 1, 32, 33, 2**63):
+        yield "d", n
+    for n in (0, 1, 2**40, 2**62, 2**63):
+        yield "n", n
+    for i in range(len(t.dims)):
+        yield from (("l", i, n) for n in (0, 1, 2, 65535))
+    for i in range(len(t.vars)):
+        yield from (("c", i, n) for n in (0, 1, 4, 6, 7, 255))
+        yield from (("k", i, n) for n in (0, 1, 2, 8, 9, 255))
+        yield from (("i", i, n) for n in (0, 1, 2, len(t.dims), 31, 32, 65535))
+        yield from (("b", i, n) for n in (0, 2, 2**62 - 2**20, 2**62, 2**62 + 1, 2**63, 2**63 + 2**59))
+
+
+def out_of_order(play):
+    """23, which comes before all others, and goes with the number that gave it."""
+    for *name, value in list(changes(play.tables)):
+        was = play.numbers[tuple(name) if name[1:] else name[0]]
+        play.change(*name, value)
+        for i in (0, len(play.first.vars) - 1, 70):
+            play.element(i, 0, 0)
+        play.element(0, 1, 0, 4)
+        play.output(0, 0, 4, 6)
+        play.output(0, None, 4, 0)
+        play.change(*name, was)
+
+
+def replay():
+    play = Replay()
+    for data, values in files():
+        if not play.file(data):
+            sys.exit(f"replay: the model refuses {data.hex()}")
+        all_values(play, values)
+    for data in refused_files():
+        play.file(data)
+        play.element(0, 0, 0)
+        play.output(0, None, 4, 1)
+    probed = [made([A, T, B], [(b"r", [1, 2], 4), (b"f", [0], 3), (b"q", [1], 6)], 2), made([B, T], [(b"c", [1, 0], 2)], 3, version=2), made([T], [(b"x", [0], 5)])]
+    for data, _ in probed:
+        play.file(data)
+        refusals(play)
+    for data, _ in (made([A, T, B], [(b"r", [1, 2], 4), (b"m", [2, 0], 4)], 2), made([A], [(b"f", [0], 4)], version=2)):
+        play.file(data)
+        out_of_order(play)
+    return play
+
+
+def main():
+    play = replay()
+    folder = os.path.join(os.path.dirname(os.path.abspath(__file__)), "..", "crates", "replay")
+    differ = []
+    for file, lines in (("stdin", play.recorded), ("stdout", play.expected)):
+        path, text = os.path.join(folder, file), "\n".join(lines) + "\n"
+        if sys.argv[1:] == ["--check"]:
+            try:
+                with open(path, encoding="ascii", newline="") as f:
+                    if f.read() != text:
+                        differ.append(file)
+            except FileNotFoundError:
+                differ.append(file)
+        else:
+            with open(path, "w", encoding="ascii", newline="") as f:
+                f.write(text)
+    given = ", ".join(f"{number} {times} times" for number, times in sorted(play.refusals.items()))
+    print(f"{play.files} files, {play.values} values by elements, {play.outputs} reads into outputs; refusals: {given}")
+    if differ:
+        sys.exit(f"replay: {' and '.join(differ)} differ from what the model answers")
+
+
+main()
