@@ -1,5 +1,5 @@
 //! The header reader against netcdf3's: the same bytes, through `FileReader::open_seek_read` over a cursor (the reader and its
-//! tables are freed in that time) and through `fungal_read_header`. Prints lines as decode does; a time is that of one header.
+//! tables are freed in that time) and through `fungal_read_header`. Prints lines as `whole` does; a time is that of one header.
 
 mod clock;
 mod headers;

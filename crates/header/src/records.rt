@@ -8,7 +8,7 @@ ghost use Rattle.cdf.specs.Padding.{padding};
 ghost use Rattle.items.specs.Types.{typeOf, sizeOf};
 ghost use Rattle.grammar.specs.Tables.{idAt};
 ghost use Rattle.header.specs.Model.{idsHold};
-ghost use Rattle.header.specs.Records.{isRecord, outer, chunk, chunkBytes, capped, maxChunk, sizesHold, added, stillHolds, endsIn};
+ghost use Rattle.header.specs.Records.{isRecord, outer, chunk, capped, maxChunk, sizesHold, added, stillHolds, endsIn};
 ghost use Rattle.header.specs.Count.{sizesOf};
 ghost use Rattle.grammar.specs.Within.{Shaped};
 use cdf::padding::compute_padding_size;
@@ -86,15 +86,6 @@ pub fn chunk_len(dims: [Dim; 32], v: Var) -> u64
         k += 1;
     }
     product
-}
-
-// The bytes of a chunk, without padding.
-pub fn chunk_bytes(dims: [Dim; 32], v: Var) -> u64
-    requires { ⌜ (v .rank ≤ 8) × ((k : ℕ) → k < v .rank → idAt v k < 32) × (1 ≤ v .code) × (v .code ≤ 6) ⌝ }
-    ensures { λ r. ⌜ r ≡ capped (chunkBytes dims v) ⌝ }
-{
-    let kind = DataType::of_code(v.code as u64);
-    times(chunk_len(dims, v), kind.size_of())
 }
 
 // The padded bytes of a chunk of `len` elements; above the limit where they are.

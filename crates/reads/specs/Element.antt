@@ -28,6 +28,16 @@ abbrev pub valueAnswer : Step Value → Value
 valueAnswer (got x _) = x
 valueAnswer (stop k _) = Refused k
 
+-- the answer number in an element read's answer (01, Answer numbers: "0 accepted")
+abbrev pub numberIn : Value → ℕ
+numberIn (Byte x) = 0
+numberIn (Char x) = 0
+numberIn (Short x) = 0
+numberIn (Int x) = 0
+numberIn (Float x b) = 0
+numberIn (Double x b) = 0
+numberIn (Refused k) = k
+
 -- element e of record r of a variable that was found: 18, 19, 20
 unfoldable pub elementOf : List ℕ → ℕ → ℕ → ℕ → Variable → Step Value
 elementOf s start r e v = bind (elementSpot v (length s) start r e) (λ _ _. got (valueOf (typeOf (v .code)) (bits v s start r e)) 0)

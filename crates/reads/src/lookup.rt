@@ -4,6 +4,7 @@ ghost use Prim.Native.Nat.{_+_, _≤_};
 ghost use lib.ListN.{length};
 ghost use Rattle.grammar.specs.Tables.{varAt};
 ghost use Rattle.reads.specs.Lookup.{namesInside, sameBytes, firstNamed, findVar, nameAnswer, varName};
+use grammar::tables::MAX_VARS;
 use grammar::tables::Tables;
 use grammar::tables::Var;
 
@@ -16,7 +17,7 @@ pub enum Found {
 fn names_inside(s: &[u8], t: Tables) -> bool
     ensures { λ r. ⌜ r ≡ namesInside (now (s .entry)) t ⌝ }
 {
-    if 64 < t.nvars {
+    if MAX_VARS < t.nvars {
         return false;
     }
     let n = s.len();

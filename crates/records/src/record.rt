@@ -13,6 +13,10 @@ use decode::strided::records_u32;
 use decode::strided::records_u64;
 use grammar::tables::Tables;
 use items::types::DataType;
+
+// The answer number of a read that has filled its output.
+const ACCEPTED: u8 = 0;
+
 use reads::place::Stretch;
 use reads::place::Stretched;
 use reads::place::record_of;
@@ -25,7 +29,7 @@ pub fn read_record_i8(t: Tables, s: &[u8], start: u64, i: usize, r: u64, out: &m
         Stretched::Got(x) => {
             let from = x.at;
             records_i8(&s[from..], out, x.count, x.chunk, x.stride);
-            0
+            ACCEPTED
         }
     }
 }
@@ -38,7 +42,7 @@ pub fn read_record_u8(t: Tables, s: &[u8], start: u64, i: usize, r: u64, out: &m
         Stretched::Got(x) => {
             let from = x.at;
             records_u8(&s[from..], out, x.count, x.chunk, x.stride);
-            0
+            ACCEPTED
         }
     }
 }
@@ -51,7 +55,7 @@ pub fn read_record_i16(t: Tables, s: &[u8], start: u64, i: usize, r: u64, out: &
         Stretched::Got(x) => {
             let from = x.at;
             records_i16(&s[from..], out, x.count, x.chunk, x.stride);
-            0
+            ACCEPTED
         }
     }
 }
@@ -64,7 +68,7 @@ pub fn read_record_i32(t: Tables, s: &[u8], start: u64, i: usize, r: u64, out: &
         Stretched::Got(x) => {
             let from = x.at;
             records_i32(&s[from..], out, x.count, x.chunk, x.stride);
-            0
+            ACCEPTED
         }
     }
 }
@@ -77,7 +81,7 @@ pub fn read_record_f32(t: Tables, s: &[u8], start: u64, i: usize, r: u64, out: &
         Stretched::Got(x) => {
             let from = x.at;
             records_f32(&s[from..], out, x.count, x.chunk, x.stride);
-            0
+            ACCEPTED
         }
     }
 }
@@ -90,7 +94,7 @@ pub fn read_record_f64(t: Tables, s: &[u8], start: u64, i: usize, r: u64, out: &
         Stretched::Got(x) => {
             let from = x.at;
             records_f64(&s[from..], out, x.count, x.chunk, x.stride);
-            0
+            ACCEPTED
         }
     }
 }
@@ -110,7 +114,7 @@ pub fn read_record_f32_bits(
         Stretched::Got(x) => {
             let from = x.at;
             records_u32(&s[from..], out, x.count, x.chunk, x.stride);
-            0
+            ACCEPTED
         }
     }
 }
@@ -130,7 +134,7 @@ pub fn read_record_f64_bits(
         Stretched::Got(x) => {
             let from = x.at;
             records_u64(&s[from..], out, x.count, x.chunk, x.stride);
-            0
+            ACCEPTED
         }
     }
 }

@@ -13,6 +13,10 @@ use decode::strided::records_u32;
 use decode::strided::records_u64;
 use grammar::tables::Tables;
 use items::types::DataType;
+
+// The answer number of a read that has filled its output.
+const ACCEPTED: u8 = 0;
+
 use reads::place::Stretch;
 use reads::place::Stretched;
 use reads::place::whole_of;
@@ -25,7 +29,7 @@ pub fn read_whole_i8(t: Tables, s: &[u8], start: u64, i: usize, out: &mut [i8]) 
         Stretched::Got(x) => {
             let from = x.at;
             records_i8(&s[from..], out, x.count, x.chunk, x.stride);
-            0
+            ACCEPTED
         }
     }
 }
@@ -38,7 +42,7 @@ pub fn read_whole_u8(t: Tables, s: &[u8], start: u64, i: usize, out: &mut [u8]) 
         Stretched::Got(x) => {
             let from = x.at;
             records_u8(&s[from..], out, x.count, x.chunk, x.stride);
-            0
+            ACCEPTED
         }
     }
 }
@@ -51,7 +55,7 @@ pub fn read_whole_i16(t: Tables, s: &[u8], start: u64, i: usize, out: &mut [i16]
         Stretched::Got(x) => {
             let from = x.at;
             records_i16(&s[from..], out, x.count, x.chunk, x.stride);
-            0
+            ACCEPTED
         }
     }
 }
@@ -64,7 +68,7 @@ pub fn read_whole_i32(t: Tables, s: &[u8], start: u64, i: usize, out: &mut [i32]
         Stretched::Got(x) => {
             let from = x.at;
             records_i32(&s[from..], out, x.count, x.chunk, x.stride);
-            0
+            ACCEPTED
         }
     }
 }
@@ -77,7 +81,7 @@ pub fn read_whole_f32(t: Tables, s: &[u8], start: u64, i: usize, out: &mut [f32]
         Stretched::Got(x) => {
             let from = x.at;
             records_f32(&s[from..], out, x.count, x.chunk, x.stride);
-            0
+            ACCEPTED
         }
     }
 }
@@ -90,7 +94,7 @@ pub fn read_whole_f64(t: Tables, s: &[u8], start: u64, i: usize, out: &mut [f64]
         Stretched::Got(x) => {
             let from = x.at;
             records_f64(&s[from..], out, x.count, x.chunk, x.stride);
-            0
+            ACCEPTED
         }
     }
 }
@@ -103,7 +107,7 @@ pub fn read_whole_f32_bits(t: Tables, s: &[u8], start: u64, i: usize, out: &mut 
         Stretched::Got(x) => {
             let from = x.at;
             records_u32(&s[from..], out, x.count, x.chunk, x.stride);
-            0
+            ACCEPTED
         }
     }
 }
@@ -116,7 +120,7 @@ pub fn read_whole_f64_bits(t: Tables, s: &[u8], start: u64, i: usize, out: &mut 
         Stretched::Got(x) => {
             let from = x.at;
             records_u64(&s[from..], out, x.count, x.chunk, x.stride);
-            0
+            ACCEPTED
         }
     }
 }

@@ -11,17 +11,6 @@ use Rattle.grammar.specs.declared.tables.Tables.{Tables}
 use Rattle.reads.specs.Values.{wholeRead}
 use Rattle.reads.specs.Element.{elementRead}
 use Rattle.reads.specs.declared.element.Value.{Value}
-use Rattle.reads.specs.declared.element.Value.the-variants.{Byte, Char, Short, Int, Float, Double, Refused}
-
--- the answer number in an element read's answer (01, Answer numbers: "0 accepted")
-abbrev pub numberIn : Value → ℕ
-numberIn (Byte x) = 0
-numberIn (Char x) = 0
-numberIn (Short x) = 0
-numberIn (Int x) = 0
-numberIn (Float x b) = 0
-numberIn (Double x b) = 0
-numberIn (Refused k) = k
 
 -- the header's refusal, or a read of the tables that it gave
 abbrev pub afterHeader : {A : Type 0} → Header → (Tables → Step A) → Step A

@@ -1,3 +1,3 @@
-// What another language calls for values, beside the header reader of `exports`; in a library of its own, so that each has its own
-// copy of the reader, made part of the one function that calls it.
+// What another language calls for values. A library of its own: in `exports` the header reader then has one caller, of which the compiler
+// makes it a part.
 mod values; // values.rt: values of a whole file

@@ -180,10 +180,6 @@ module _ (ds : List Dim) (v : Var) where
         most h true = h
         most h false = omega arith
 
-  pub bytes-are : (w : ℕ) → w ≡ sizeOf (typeOf (v .code)) → capped (chunk ds v * w) ≡ capped (chunkBytes ds v)
-  unfolding chunkBytes
-  bytes-are w e = ap (λ (i : ℕ). capped (chunk ds v * i)) e
-
   pub padded-is : capped (chunk ds v * sizeOf (typeOf (v .code)) + padding (chunk ds v * sizeOf (typeOf (v .code)))) ≡ capped (paddedBytes ds v)
   unfolding paddedBytes chunkBytes
   padded-is = refl

@@ -16,9 +16,9 @@ use Rattle.items.specs.declared.types.DataType.{DataType}
 use Rattle.items.specs.declared.types.DataType.the-variants.{I8, U8, I16, I32, F32, F64}
 use Rattle.reads.specs.Variable.{sought}
 use Rattle.reads.specs.Values.{bits, elementSpot, numberOf, outputOf, wholeRead}
-use Rattle.reads.specs.Element.{valueOf, valueAnswer, elementOf, elementRead}
+use Rattle.reads.specs.Element.{valueOf, valueAnswer, numberIn, elementOf, elementRead}
 use Rattle.reads.specs.declared.element.Value.{Value}
-use Rattle.values.specs.Values.{numberIn, afterHeader, wholeOfFile, elementOfFile}
+use Rattle.values.specs.Values.{afterHeader, wholeOfFile, elementOfFile}
 
 -- ---- the number in an element read's answer is that of the read
 value-number : (d : DataType) (b : ℕ) → numberIn (valueOf d b) ≡ 0
