@@ -29,6 +29,7 @@ class Var:
     type: int
     vsize: int
     begin: int
+    at: int = field(default=0, compare=False)  # where the name stands in the header
 
 
 @dataclass
@@ -139,11 +140,12 @@ class Cursor:
         return self.items(0x0C, ATTRS - self.attrs, counted)
 
     def var(self, version):
+        at = self.at + 4
         name = self.name()
         ids = [self.word() for _ in range(self.word(IDS))]
         attrs, code, vsize = self.attr_list(), self.type(), self.word(open=True)
         begin = int.from_bytes(self.take(4 if version == 1 else 8), "big", signed=True)
-        return Var(name, ids, attrs, code, vsize, begin)
+        return Var(name, ids, attrs, code, vsize, begin, at)
 
     def header(self, admitted):
         self.magic()
@@ -334,3 +336,28 @@ def read_var(t, window, start, number, room, asked=None):
     if records(t, var) * n > room:
         raise Refused(22)
     return got
+
+
+# ---- lookup: the names are parts of the buffer ----
+
+
+def names(t, buffer):
+    if len(t.vars) > VARS or any(var.at + len(var.name) > len(buffer) for var in t.vars):
+        raise Refused(23)
+    return [buffer[var.at :][: len(var.name)] for var in t.vars]
+
+
+@answered
+def var_name(t, buffer, number):
+    found = names(t, buffer)
+    if number >= len(found):
+        raise Refused(16)
+    return found[number]
+
+
+@answered
+def find_var(t, buffer, name):
+    found = names(t, buffer)
+    if name not in found:
+        raise Refused(16)
+    return found.index(name)

@@ -1,7 +1,7 @@
 #!/usr/bin/env python3
-"""Writes crates/replay/stdin, recorded files with reads of all their values and probes of each refusal of a read, and
-crates/replay/stdout, what the model answers. With --check it writes nothing and fails where the two files differ from
-what it would write.
+"""Writes crates/replay/stdin, recorded files with reads of all their values, lookups of all their variables and probes
+of each refusal, and crates/replay/stdout, what the model answers. With --check it writes nothing and fails where the two
+files differ from what it would write.
 
 The lines are those that crates/replay/src/main.rt and tables.rt name. Values that a file was made of are compared here
 with what the model reads, so that the answers do not rest on the model alone.
@@ -123,7 +123,7 @@ def numbers_of(t):
     for i in range(model.VARS):
         var = t.vars[i] if i < len(t.vars) else model.Var(b"", [], [], 0, 0, 0)
         first = var.ids[0] if var.ids else 0
-        numbers.update({("c", i): var.type, ("k", i): len(var.ids), ("i", i): first, ("b", i): var.begin % 2**64})
+        numbers.update({("c", i): var.type, ("k", i): len(var.ids), ("i", i): first, ("p", i): var.at, ("b", i): var.begin % 2**64})
     return numbers
 
 
@@ -131,10 +131,10 @@ def tables_of(numbers, t):
     """Tables of these numbers; what no line changes is that of t."""
 
     def var(i):
-        row = t.vars[i].ids if i < len(t.vars) else []
+        name, row = (t.vars[i].name, t.vars[i].ids) if i < len(t.vars) else (b"", [])
         rank, begin = numbers["k", i], numbers["b", i]
         ids = [numbers["i", i], *row[1:], *[0] * rank][:rank]
-        return model.Var(b"", ids, [], numbers["c", i], 0, begin - 2**64 if begin >> 63 else begin)
+        return model.Var(name, ids, [], numbers["c", i], 0, begin - 2**64 if begin >> 63 else begin, numbers["p", i])
 
     dims = [model.Dim(b"", numbers.get(("l", i), 0)) for i in range(min(numbers["d"], model.DIMS + 1))]
     vars = [var(min(i, model.VARS - 1)) for i in range(min(numbers["v"], model.VARS + 1))]
@@ -146,7 +146,7 @@ class Replay:
 
     def __init__(self):
         self.recorded, self.expected, self.refusals = [], [], {}
-        self.files = self.values = self.outputs = 0
+        self.files = self.values = self.outputs = self.lookups = 0
 
     def line(self, kind, *rest):
         """Numbers have at most 19 digits."""
@@ -156,7 +156,7 @@ class Replay:
         """Whether its header is accepted."""
         number, place, records, end, self.first = model.read_header(data, len(data))
         self.numbers = numbers_of(self.first)
-        self.data, self.window, self.tables = data, (0, len(data)), self.first
+        self.data, self.window, self.start, self.tables = data, (0, len(data)), 0, self.first
         self.line("f", data.hex())
         self.expected.append(f"{number} {place} {records} {end}")
         self.files += 1
@@ -172,14 +172,40 @@ class Replay:
     def look(self, start, stop):
         """The window from here on."""
         self.line("w", start, stop)
-        self.window = (start, stop)
+        self.window, self.start = (start, stop), start
+
+    def tell(self, start):
+        """Where the reads are told that the window starts."""
+        self.line("s", start)
+        self.start = start
+
+    def counted(self, number):
+        if number:
+            self.refusals[number] = self.refusals.get(number, 0) + 1
 
     def asked(self, read, *args, **more):
         start, stop = self.window
-        number, values = read(self.tables, self.data[start:stop], start, *args, **more)
-        if number:
-            self.refusals[number] = self.refusals.get(number, 0) + 1
+        number, values = read(self.tables, self.data[start:stop], self.start, *args, **more)
+        self.counted(number)
         return number, values
+
+    def name(self, var):
+        self.line("m", var)
+        number, name = model.var_name(self.tables, self.data, var)
+        self.counted(number)
+        self.lookups += 1
+        self.expected.append(" ".join(map(str, [number, *(name or b"")])))
+        return name
+
+    def find(self, start, stop):
+        """The variable that these bytes of the file name; the empty part where they do not lie inside."""
+        self.line("q", start, stop)
+        part = self.data[start:stop] if stop <= len(self.data) else b""
+        number, found = model.find_var(self.tables, self.data, part)
+        self.counted(number)
+        self.lookups += 1
+        self.expected.append(f"refused {number}" if number else f"at {found}")
+        return found
 
     def element(self, var, record, element, code=None):
         self.line("t" if code else "e", var, record, element, *[code] if code else [])
@@ -227,6 +253,88 @@ def all_values(play, values):
         play.element(i, 0, n)
         play.element(i, records, 0)
     play.element(len(t.vars), 0, 0)
+
+
+def all_names(play, laid):
+    """Every variable by its number and by its name, what is no name, and one variable too many for the tables."""
+    data = play.data
+    places, at = [], 0
+    for name in laid:
+        at = data.index(encode.name(name), at) + 4
+        places.append((at, at + len(name)))
+
+    def ask():
+        for i, (start, stop) in enumerate(places):
+            yield i, play.name(i), play.find(start, stop)
+
+    for i, name, found in ask():
+        same(name, laid[i], data, "name", i)
+        same(found, i, data, "number", i)
+    play.name(len(laid))
+    # the file's first bytes are no name; nor are a name with the byte after it, the empty part, and what lies outside
+    for start, stop in ((0, 3), (places[0][0], places[0][1] + 1), (4, 4), (places[0][1], places[0][0]), (places[0][0], len(data) + 1), (2**63, 2**63 + 1)):
+        play.find(start, stop)
+    for n in (65, 2**63):
+        play.change("v", n)
+        list(ask())
+        play.name(64)
+    play.change("v", len(laid))
+
+
+def moved_names(play):
+    """Names that end with the file or behind it, names that two variables have, and rows without one."""
+    t, size = play.tables, len(play.data)
+    places = [(var.at, var.at + len(var.name)) for var in t.vars]
+
+    def ask():
+        for i in (*range(len(places) + 1), 63, 64, 2**63):
+            play.name(i)
+        for start, stop in (*places, (size - 1, size), (0, 0)):
+            play.find(start, stop)
+
+    for i, var in enumerate(t.vars):
+        last = size - len(var.name)
+        for at in (0, last, last + 1, size, size + 1, 2**63, *(at for at, _ in places)):
+            play.change("p", i, at)
+            ask()
+        play.change("p", i, var.at)
+    for n in (0, 1, len(t.vars) + 1, 64, 65):
+        play.change("v", n)
+        ask()
+    # a name behind the file counts only in a row that is a variable's
+    play.change("p", len(t.vars), size + 1)
+    for n in (len(t.vars), len(t.vars) + 1):
+        play.change("v", n)
+        ask()
+
+
+def told_starts(play):
+    """The same windows, told to start elsewhere: other bytes of the file, or 20."""
+    t, size = play.tables, len(play.data)
+    for i, var in enumerate(t.vars):
+        n, last = model.chunk(t, var), max(model.records(t, var), 1) - 1
+        at = var.begin + last * model.record_size(t)
+        for start, stop in ((0, size), (at, at + n * SIZES[var.type]), (at - 1, at + n * SIZES[var.type] + 1)):
+            play.look(start, stop)
+            near = (start + 1, start + 2, start, *([start - 1] if start else []))
+            for told in (*near, 0, size, 2**32 + start, 2**62, 2**63 - 1, 2**63, 2**63 + start, 9999999999999999999):
+                play.tell(told)
+                for e in (0, n - 1):
+                    play.element(i, last, e)
+                play.output(i, last, var.type, n)
+                play.output(i, None, var.type, n * (last + 1))
+            play.look(start, stop)
+            play.element(i, last, 0)
+    # the largest positions that tables in order reach
+    for begin in (2**62 - 64, 2**62):
+        play.change("b", 0, begin)
+        play.look(0, size)
+        for told in (begin - 1, begin, begin + 1, begin - size, begin - size + 1):
+            play.tell(told)
+            play.element(0, 0, 0)
+            play.output(0, 0, t.vars[0].type, model.chunk(t, t.vars[0]))
+    # what is told last must not outlast the file
+    play.change("b", 0, t.vars[0].begin)
 
 
 def refusals(play):
@@ -298,14 +406,20 @@ def replay():
         if not play.file(data):
             sys.exit(f"replay: the model refuses {data.hex()}")
         all_values(play, values)
+        all_names(play, [var.name for var in play.tables.vars])
     for data in refused_files():
         play.file(data)
         play.element(0, 0, 0)
         play.output(0, None, 4, 1)
+        play.name(0)
+        play.find(0, 1)
+        play.find(0, 0)
     probed = [made([A, T, B], [(b"r", [1, 2], 4), (b"f", [0], 3), (b"q", [1], 6)], 2), made([B, T], [(b"c", [1, 0], 2)], 3, version=2), made([T], [(b"x", [0], 5)])]
     for data, _ in probed:
         play.file(data)
         refusals(play)
+        told_starts(play)
+        moved_names(play)
     for data, _ in (made([A, T, B], [(b"r", [1, 2], 4), (b"m", [2, 0], 4)], 2), made([A], [(b"f", [0], 4)], version=2)):
         play.file(data)
         out_of_order(play)
@@ -329,7 +443,7 @@ def main():
             with open(path, "w", encoding="ascii", newline="") as f:
                 f.write(text)
     given = ", ".join(f"{number} {times} times" for number, times in sorted(play.refusals.items()))
-    print(f"{play.files} files, {play.values} values by elements, {play.outputs} reads into outputs; refusals: {given}")
+    print(f"{play.files} files, {play.values} values by elements, {play.outputs} reads into outputs, {play.lookups} lookups; refusals: {given}")
     if differ:
         sys.exit(f"replay: {' and '.join(differ)} differ from what the model answers")
 

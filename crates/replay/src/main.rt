@@ -1,11 +1,14 @@
-// Runs the header reader and the reads on recorded files. A line of standard input is a letter, a
+// Runs the header reader, the reads and the lookups on recorded files. A line of standard input is a letter, a
 // space and what the letter takes: the bytes of a file in hexadecimal, or numbers in decimal.
 //     f HEX                      a file: number, place, record count and end of its header
 //     w FROM TO                  the window is these bytes of the file, until the next file
+//     s START                    the reads are told that the window starts there, until the next file or window
 //     e VAR RECORD ELEMENT       an element of whatever type
 //     t VAR RECORD ELEMENT CODE  an element of a variable that must have the type
 //     r VAR RECORD CODE ROOM     a record, into an output of so many elements
 //     a VAR 0 CODE ROOM          all records
+//     m VAR                      a variable's name: the answer's number, then its bytes
+//     q FROM TO                  the variable whose name is these bytes of the file
 // The other letters change a number of the tables (tables.rt). tests/replay.py writes the lines and
 // what is expected.
 ghost use Prim.Native.Nat.{_≤_};
@@ -13,6 +16,8 @@ ghost use lib.ListN.{length};
 ghost use Rattle.hexlines.specs.Cut.{kept};
 use crate::element::show_element;
 use crate::element::show_typed;
+use crate::names::show_found;
+use crate::names::show_name;
 use crate::output::Ask;
 use crate::output::show_output;
 use crate::tables::changed;
@@ -30,16 +35,18 @@ use hexlines::line::Line;
 use hexlines::line::line_answer;
 
 mod element;
+mod names;
 mod output;
 mod tables;
 mod text;
 
-// The last file's tables and size, and the window on its bytes.
+// The last file's tables and size, the window on its bytes, and where the reads are told that it starts.
 struct Held {
     tables: Tables,
     size: usize,
     from: usize,
     to: usize,
+    start: u64,
 }
 
 // The header of a file, and the window that holds all of it.
@@ -60,6 +67,7 @@ fn opened(bytes: &[u8]) -> Held {
         size,
         from: 0,
         to: size,
+        start: 0,
     }
 }
 
@@ -69,6 +77,7 @@ fn nothing() -> Held {
         size: 0,
         from: 0,
         to: 0,
+        start: 0,
     }
 }
 
@@ -100,6 +109,15 @@ fn read(kind: u8, a: [u64; 4], t: Tables, s: &[u8], start: u64) {
     }
 }
 
+// A name of the file whose bytes are `s`, or the variable that has one.
+fn look_up(kind: u8, a: [u64; 4], t: Tables, s: &[u8]) {
+    if kind == b'm' {
+        show_name(t, s, a[0] as usize);
+        return;
+    }
+    show_found(t, s, a[0] as usize, a[1] as usize);
+}
+
 // What a line with the letter `kind` and the numbers `a` asks of the last file.
 fn asked(kind: u8, a: [u64; 4], file: &[u8], held: Held) -> Held {
     let tables = held.tables;
@@ -109,11 +127,24 @@ fn asked(kind: u8, a: [u64; 4], file: &[u8], held: Held) -> Held {
             size: held.size,
             from: a[0] as usize,
             to: least(a[1] as usize, held.size),
+            start: a[0],
         },
+        b's' => Held {
+            tables,
+            size: held.size,
+            from: held.from,
+            to: held.to,
+            start: a[0],
+        },
+        b'm' | b'q' => {
+            let size = least(held.size, file.len());
+            look_up(kind, a, tables, &file[0..size]);
+            held
+        }
         b'e' | b't' | b'r' | b'a' => {
             let to = least(held.to, file.len());
             let from = least(held.from, to);
-            read(kind, a, tables, &file[from..to], from as u64);
+            read(kind, a, tables, &file[from..to], held.start);
             held
         }
         _ => {
@@ -123,6 +154,7 @@ fn asked(kind: u8, a: [u64; 4], file: &[u8], held: Held) -> Held {
                 size: held.size,
                 from: held.from,
                 to: held.to,
+                start: held.start,
             }
         }
     }

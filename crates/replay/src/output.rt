@@ -64,7 +64,7 @@ fn run_i8(t: Tables, s: &[u8], start: u64, a: Ask)
     read_i8(t, s, start, a, &mut out[..room]);
 }
 
-fn show_u8(number: u8, values: &[u8]) {
+pub fn show_u8(number: u8, values: &[u8]) {
     io::print_decimal(1, wide(number));
     let mut i = 0;
     while i < values.len() {

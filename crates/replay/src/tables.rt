@@ -3,7 +3,7 @@ use grammar::tables::Dim;
 use grammar::tables::Tables;
 use grammar::tables::Var;
 
-// The row `v` with one number changed: its type, how many dimensions, the first one's id, its begin.
+// The row `v` with one number changed: its type, how many dimensions, the first one's id, where its name stands, its begin.
 fn changed_row(kind: u8, n: u64, v: Var) -> Var {
     let mut row = v;
     match kind {
@@ -14,6 +14,7 @@ fn changed_row(kind: u8, n: u64, v: Var) -> Var {
             ids[0] = (n % 65536) as u32;
             row.ids = ids;
         }
+        b'p' => row.name = n as usize,
         _ => row.begin = n,
     }
     row
@@ -44,7 +45,7 @@ fn changed_var(kind: u8, i: usize, n: u64, t: Tables) -> Tables {
 }
 
 // The tables with one number changed: `v N` the number of variables, `d N` of dimensions, `n N` of records, `l DIM N` a dimension's length;
-// `c VAR N`, `k VAR N`, `i VAR N`, `b VAR N` one of a variable's row.
+// `c VAR N`, `k VAR N`, `i VAR N`, `p VAR N`, `b VAR N` one of a variable's row.
 pub fn changed(kind: u8, a: [u64; 4], t: Tables) -> Tables {
     let mut tables = t;
     match kind {
