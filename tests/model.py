@@ -8,10 +8,16 @@ SIZES = {1: 1, 2: 1, 3: 2, 4: 4, 5: 4, 6: 8}
 FAR, WIDE = 2**62, 2**60
 
 
+def place():
+    """Where something stands in the header; equal tables may differ in it."""
+    return field(default=0, compare=False)
+
+
 @dataclass
 class Dim:
     name: bytes
     length: int
+    at: int = place()  # the name's first byte
 
 
 @dataclass
@@ -19,6 +25,8 @@ class Attr:
     name: bytes
     type: int
     values: bytes
+    at: int = place()  # the name's first byte
+    values_at: int = place()
 
 
 @dataclass
@@ -29,7 +37,7 @@ class Var:
     type: int
     vsize: int
     begin: int
-    at: int = field(default=0, compare=False)  # where the name stands in the header
+    at: int = place()  # the name's first byte
 
 
 @dataclass
@@ -122,13 +130,16 @@ class Cursor:
         return [item() for _ in range(self.word(most))]
 
     def dim(self):
-        return Dim(self.name(), self.word())
+        at = self.at + 4
+        return Dim(self.name(), self.word(), at)
 
     def attr(self):
+        at = self.at + 4
         name, code, n = self.name(), self.type(), self.word()
+        values_at = self.at
         values = self.take(n * SIZES[code])
         self.padding(len(values))
-        return Attr(name, code, values)
+        return Attr(name, code, values, at, values_at)
 
     def attr_list(self):
         """The capacity counts the attributes of all lists before."""

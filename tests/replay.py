@@ -13,7 +13,7 @@ import sys
 
 import encode
 import model
-from cases import EMPTY
+from cases import EMPTY, cases
 from model import OPEN, SIZES
 
 NAMES = {1: "byte", 2: "char", 3: "short", 4: "int", 5: "float", 6: "double"}
@@ -113,7 +113,89 @@ def refused_files():
     yield encode.file([T], [(b"x", [0], 4, 80)], word=OPEN) + bytes(3)
 
 
+# ---- headers ----
+
+
+def rich(version, word=OPEN):
+    """Every list, every type, ids, an open vsize, names of one to five bytes, attributes with no values; the file is the header alone."""
+    values = {1: b"\x80\x7f", 2: b"text\xff", 3: b"\x12\x34", 4: bytes(12), 5: b"\x7f\xa0\0\1", 6: bytes(range(16))}
+    globals = [(b"g" + bytes([96 + code]) * (code - 1), code, values[code]) for code in SIZES]
+    dims = [(b"t", 0), (b"lat", 3), ("é".encode(), 2147483647), (b"abcde", 4)]
+    own = [(b"u", 2, b""), (b"units", 2, b"K"), (b"v", 6, values[6])]
+    vars = [(b"x", [0], 4, 400), (b"yy", [0, 1, 3], 3, 404, own), (b"zzz", [3, 3], 6, 2**31 - 1), (b"w", [], 2, 1, own[:1]), (b"long", [2], 1, 500)]
+    t = encode.tables(dims, vars, globals, word=word, version=version)
+    t.vars[1].vsize, t.vars[2].vsize = OPEN, 0
+    return encode.header(t)
+
+
+def full():
+    """Tables without a free row: 32 dimensions, 128 attributes, 64 variables of 8 dimensions each."""
+    dims = [(b"d%d" % i, i + 1) for i in range(model.DIMS)]
+    attrs = [(b"a%d" % i, i % 6 + 1, b"") for i in range(model.VARS)]
+    vars = [(b"v%d" % i, [i % 3] * model.IDS, i % 6 + 1, 2**40 + i, [(b"o", 2, b"x")]) for i in range(model.VARS)]
+    return encode.file(dims, vars, attrs, version=2)
+
+
+SETS = ((), (1,), (2,), (1, 2))
+# at and around the limits of words, of 32-bit machines, of rule 12 and of sizes
+LIMITS = sorted({n + d for n in (2**31, 2**32, 2**53, 2**60, 2**62) for d in (-1, 0, 1)} | {4294967372, 4294967388, 8589934684})
+
+
+def all_headers(play):
+    """Every set of versions, every prefix at two sizes, sizes from below the prefix up to 2^62 + 1."""
+    for data in (EMPTY, rich(1), rich(2, 7), rich(1, 0), full(), encode.file([T], [(b"x", [0], 4, 80)], word=OPEN)):
+        play.file(data)
+        for admitted in SETS:
+            play.header(admitted, len(data), len(data))
+            play.header(admitted, 3, len(data))
+        cuts = range(len(data) + 1) if len(data) < 600 else range(0, len(data), 97)
+        for n in cuts:
+            play.header((1, 2), n, n)
+            play.header((1, 2), n, len(data) + 12)
+        for size in (0, len(data) - 1, *range(len(data), len(data) + 14), *LIMITS):
+            play.header((1, 2), len(data), size)
+    for version in (0, 3, 5, 0x31, 0xFF):
+        play.file(EMPTY[:3] + bytes([version]) + EMPTY[4:])
+        for admitted in SETS:
+            play.header(admitted, len(EMPTY), len(EMPTY))
+    # open counts whose numbers pass 32 and 53 bits, and begins and ends at 2^62
+    for begin in (0, 80, 2**32 - 4, 2**32, 2**62 - 4, 2**62, 2**62 + 1, 2**63):
+        for dims, ids in (([T], [0]), ([T, (b"n", 2**31 - 1)], [0, 1])):
+            play.file(encode.file(dims, [(b"x", ids, 4, begin)], word=OPEN, version=2))
+            for size in (len(play.data), *LIMITS, begin + 2**33 - 4, begin + 2**33, begin + 8):
+                if size < 10**19:
+                    play.header((1, 2), len(play.data), size)
+    for word in (1, 2**31 - 1):
+        play.file(encode.file([T, (b"n", 2**30)], [(b"x", [0, 1], 1, 2**61)], word=word, version=2))
+    # one in eight of the hand-made files: each refusal of a header, and tables of every shape
+    for data in list(cases())[::8]:
+        if len(data) <= 400:
+            play.file(data)
+            play.answers[play.number] = play.answers.get(play.number, 0) + 1
+
+
 # ---- the program by the model ----
+
+
+def row_text(*numbers):
+    return " ".join(map(str, numbers))
+
+
+def header_text(number, place, end, t):
+    """All that the header reader answers; a 0 after each list says that the rows past its count are zero."""
+    attrs, firsts = list(t.attrs), []
+    for var in t.vars:
+        firsts.append(len(attrs))
+        attrs += var.attrs
+    parts = [row_text(number, place, end, t.version, t.word, t.count, t.size)]
+    parts += [row_text(len(t.dims)), *(row_text(dim.at, len(dim.name), dim.length) for dim in t.dims), "0"]
+    parts += [row_text(len(attrs), len(t.attrs))]
+    parts += [*(row_text(a.at, len(a.name), a.type, len(a.values) // SIZES[a.type], a.values_at) for a in attrs), "0"]
+    parts += [row_text(len(t.vars))]
+    for var, first in zip(t.vars, firsts):
+        ids = [*var.ids, *[0] * model.IDS][: model.IDS]
+        parts += [row_text(var.at, len(var.name), len(var.ids), *ids, first, len(var.attrs), var.type, var.vsize, var.begin % 2**64)]
+    return " ".join([*parts, "0"])
 
 
 def numbers_of(t):
@@ -145,8 +227,8 @@ class Replay:
     """The lines so far, and their answers."""
 
     def __init__(self):
-        self.recorded, self.expected, self.refusals = [], [], {}
-        self.files = self.values = self.outputs = self.lookups = 0
+        self.recorded, self.expected, self.refusals, self.answers = [], [], {}, {}
+        self.files = self.headers = self.values = self.outputs = self.lookups = 0
 
     def line(self, kind, *rest):
         """Numbers have at most 19 digits."""
@@ -158,9 +240,18 @@ class Replay:
         self.numbers = numbers_of(self.first)
         self.data, self.window, self.start, self.tables = data, (0, len(data)), 0, self.first
         self.line("f", data.hex())
-        self.expected.append(f"{number} {place} {records} {end}")
+        self.expected.append(header_text(number, place, end, self.first))
         self.files += 1
+        self.number = number
         return number == 0
+
+    def header(self, admitted, length, size):
+        """The header again: of the file's first bytes, at another size, for a reader that admits a set of versions."""
+        self.line("h", sum(admitted), length, size)
+        number, place, records, end, t = model.read_header(self.data[:length], size, admitted)
+        self.expected.append(header_text(number, place, end, t))
+        self.headers += 1
+        self.answers[number] = self.answers.get(number, 0) + 1
 
     def change(self, *key):
         """The number of the tables that the letter and the row before it name."""
@@ -402,6 +493,7 @@ def out_of_order(play):
 
 def replay():
     play = Replay()
+    all_headers(play)
     for data, values in files():
         if not play.file(data):
             sys.exit(f"replay: the model refuses {data.hex()}")
@@ -443,7 +535,9 @@ def main():
             with open(path, "w", encoding="ascii", newline="") as f:
                 f.write(text)
     given = ", ".join(f"{number} {times} times" for number, times in sorted(play.refusals.items()))
-    print(f"{play.files} files, {play.values} values by elements, {play.outputs} reads into outputs, {play.lookups} lookups; refusals: {given}")
+    headers = ", ".join(f"{number} {times} times" for number, times in sorted(play.answers.items()))
+    print(f"{play.files} files, {play.headers} headers more; answers: {headers}")
+    print(f"{play.values} values by elements, {play.outputs} reads into outputs, {play.lookups} lookups; refusals: {given}")
     if differ:
         sys.exit(f"replay: {' and '.join(differ)} differ from what the model answers")
 

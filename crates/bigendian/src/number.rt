@@ -4,7 +4,7 @@ ghost use mathlib.Core.Path.{_≡_};
 ghost use Prim.Native.Nat.{_+_, _*_, _/_, _%_, _<_, _≤_};
 ghost use lib.ListN.{length};
 ghost use Rattle.bigendian.specs.Number.{be};
-ghost use Rattle.bigendian.specs.Turn.{little, turned};
+ghost use Rattle.bigendian.specs.Inner.Turn.{little, turned};
 
 fn wide(b: u8) -> u32
     ensures { λ r. ⌜ (r ≡ b) × (r < 256) ⌝ }

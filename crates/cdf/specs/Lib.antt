@@ -7,3 +7,4 @@ pub mod Word
 pub mod Magic
 pub mod Padding
 pub mod ListStart
+pub mod Inner

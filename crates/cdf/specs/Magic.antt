@@ -1,19 +1,12 @@
--- The first four bytes (01, Header grammar: "`CDF`; version byte"; BNF: magic).
+-- The first four bytes (01, Header grammar: "`CDF`; version byte"; BNF: magic, VERSION).
 use Prim.Native.Nat.{ℕ, _+_}
 use mathlib.Core.Bool.{Bool, true, _||_, _&&_}
 use mathlib.Core.List.{List, [], _∷_}
 use lib.ListN.{length, getD}
-use lib.Dec.{ltb, leb, eqb}
-use Rattle.cdf.specs.Step.{Step, got, stop, test, unfinished}
+use lib.Dec.{leb, eqb}
+use Rattle.cdf.specs.Step.{Step, got, need, atHand}
 use Rattle.cdf.specs.Below.{allBelow}
 use Rattle.cdf.specs.declared.version.Admitted.{Admitted}
-use Rattle.cdf.specs.declared.step.Next.{Next}
-use Rattle.cdf.specs.declared.step.Next.the-variants.{At, Stop}
-
--- what the answer of a function that passes over bytes means
-abbrev pub ofNext : Next → Step Unit
-ofNext (At n) = got tt n
-ofNext (Stop k p) = stop k p
 
 -- the bytes of s at hand from a place begin the bytes of t: none of them departs from t (01, Header grammar: "bytes at hand that begin neither form")
 unfoldable pub begins : List ℕ → List ℕ → ℕ → Bool
@@ -25,7 +18,10 @@ cdf = 67 ∷ 68 ∷ 70 ∷ []
 
 -- 01, number 3: as soon as a byte at hand departs, place 0
 unfoldable pub magic : List ℕ → ℕ → Step Unit
-magic s size = test (begins cdf s 0) (test (leb 3 (length s)) (got tt 3) (unfinished s size)) (stop 3 0)
+magic s size =
+    need (begins cdf s 0) 3 0 (
+    atHand s size 0 3 (
+    got tt 3))
 
 -- 01: "the admitted versions (1, 2 or both)"
 abbrev pub bothVersions : Admitted
@@ -36,5 +32,8 @@ unfoldable pub admits : Admitted → ℕ → Bool
 admits a v = eqb v 1 && a .classic || eqb v 2 && a .offset64
 
 -- 01, number 4: the version byte is not admitted
-unfoldable pub version : Admitted → List ℕ → ℕ → ℕ → Step ℕ
-version a s size at = test (ltb at (length s)) (test (admits a (getD s at 0)) (got (getD s at 0) (at + 1)) (stop 4 at)) (unfinished s size)
+unfoldable pub versionByte : Admitted → List ℕ → ℕ → ℕ → Step ℕ
+versionByte a s size at =
+    atHand s size at 1 (
+    need (admits a (getD s at 0)) 4 at (
+    got (getD s at 0) (at + 1)))

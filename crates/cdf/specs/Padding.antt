@@ -2,9 +2,9 @@
 use Prim.Native.Nat.{ℕ, _+_, _-_, _%_}
 use mathlib.Core.Bool.{Bool}
 use mathlib.Core.List.{List}
-use lib.ListN.{length, getD}
-use lib.Dec.{leb, eqb}
-use Rattle.cdf.specs.Step.{Step, got, stop, test, unfinished}
+use lib.ListN.{getD}
+use lib.Dec.{eqb}
+use Rattle.cdf.specs.Step.{Step, got, need, atHand}
 use Rattle.cdf.specs.Below.{allBelow}
 
 -- 01: (4 − n mod 4) mod 4
@@ -18,4 +18,6 @@ zeros n s at = allBelow n (λ i. eqb (getD s (at + i) 0) 0)
 -- the padding after n bytes that end at a place; 01, number 7: once all the padding bytes are at hand, at the first of them
 unfoldable pub zeroPadding : ℕ → List ℕ → ℕ → ℕ → Step Unit
 zeroPadding n s size at =
-    test (leb (at + padding n) (length s)) (test (zeros (padding n) s at) (got tt (at + padding n)) (stop 7 at)) (unfinished s size)
+    atHand s size at (padding n) (
+    need (zeros (padding n) s at) 7 at (
+    got tt (at + padding n)))

@@ -2,7 +2,7 @@
 ghost use mathlib.Core.Path.{_≡_};
 ghost use Prim.Native.Nat.{_≤_};
 ghost use lib.ListN.{length};
-ghost use Rattle.cdf.specs.Word.{ofWord};
+ghost use Rattle.cdf.specs.Inner.Answers.{ofWord};
 ghost use Rattle.cdf.specs.ListStart.{listStart};
 use crate::step::Word;
 use crate::step::unfinished;

@@ -2,7 +2,7 @@
 ghost use mathlib.Core.Path.{_≡_};
 ghost use Prim.Native.Nat.{_+_, _≤_};
 ghost use lib.ListN.{length};
-ghost use Rattle.cdf.specs.Magic.{ofNext};
+ghost use Rattle.cdf.specs.Inner.Answers.{ofNext};
 ghost use Rattle.cdf.specs.Padding.{padding, zeros, zeroPadding};
 use crate::step::Next;
 use crate::step::unfinished;

@@ -2,8 +2,8 @@
 ghost use mathlib.Core.Path.{_≡_};
 ghost use Prim.Native.Nat.{_≤_};
 ghost use lib.ListN.{length};
-ghost use Rattle.cdf.specs.Word.{ofWord};
-ghost use Rattle.cdf.specs.Magic.{ofNext, begins, magic, admits, version};
+ghost use Rattle.cdf.specs.Inner.Answers.{ofWord, ofNext};
+ghost use Rattle.cdf.specs.Magic.{begins, magic, admits, versionByte};
 use crate::step::Next;
 use crate::step::Word;
 use crate::step::unfinished;
@@ -15,7 +15,7 @@ pub struct Admitted {
 }
 
 // Whether the bytes at hand from `at` begin `pattern`: none of them departs from it.
-pub fn begins(s: &[u8], at: usize, pattern: &[u8]) -> bool
+pub(crate) fn begins(s: &[u8], at: usize, pattern: &[u8]) -> bool
     requires { ⌜ at ≤ length (now s) ⌝ }
     ensures { λ r. ⌜ r ≡ begins (now (pattern .entry)) (now (s .entry)) at ⌝ }
 {
@@ -62,7 +62,7 @@ fn admits(admitted: Admitted, version: u8) -> bool
 // The version byte at `at`.
 pub fn parse_version(s: &[u8], size: u64, at: usize, admitted: Admitted) -> Word
     requires { ⌜ at ≤ length (now s) ⌝ }
-    ensures { λ r. ⌜ ofWord r ≡ version admitted (now (s .entry)) size at ⌝ }
+    ensures { λ r. ⌜ ofWord r ≡ versionByte admitted (now (s .entry)) size at ⌝ }
 {
     let n = s.len();
     if n <= at {

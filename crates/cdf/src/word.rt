@@ -3,7 +3,8 @@ ghost use mathlib.Core.Path.{_≡_};
 ghost use Prim.Native.Nat.{_≤_};
 ghost use lib.ListN.{length};
 ghost use Rattle.cdf.specs.Form.{form};
-ghost use Rattle.cdf.specs.Word.{ofWord, word, nonNegative, openCount, count, offset};
+ghost use Rattle.cdf.specs.Word.{word, nonNegative, openCount, nelems, signed};
+ghost use Rattle.cdf.specs.Inner.Answers.{ofWord};
 use crate::step::Word;
 use crate::step::unfinished;
 use bigendian::number::be32;
@@ -77,7 +78,7 @@ pub fn parse_open_count(s: &[u8], size: u64, at: usize) -> Word
 // A count or length of at most `capacity`.
 pub fn parse_count(s: &[u8], size: u64, at: usize, capacity: u64) -> Word
     requires { ⌜ at ≤ length (now s) ⌝ }
-    ensures { λ r. ⌜ ofWord r ≡ count capacity 4 (now (s .entry)) size at ⌝ }
+    ensures { λ r. ⌜ ofWord r ≡ nelems capacity 4 (now (s .entry)) size at ⌝ }
 {
     match parse_non_neg(s, size, at) {
         Word::Stop(k, p) => Word::Stop(k, p),
@@ -94,7 +95,7 @@ pub fn parse_count(s: &[u8], size: u64, at: usize, capacity: u64) -> Word
 // A begin, as the 64 bits of the signed number: four bytes in version 1, else eight.
 pub fn parse_offset(s: &[u8], size: u64, at: usize, version: u8) -> Word
     requires { ⌜ at ≤ length (now s) ⌝ }
-    ensures { λ r. ⌜ ofWord r ≡ offset (form version .offset) (now (s .entry)) size at ⌝ }
+    ensures { λ r. ⌜ ofWord r ≡ signed (form version .beginBytes) (now (s .entry)) size at ⌝ }
 {
     if version != 1 {
         return eight_bytes(s, size, at);

@@ -1,7 +1,6 @@
 -- The laws of the definitions in specs/, under the same file names, and the invariants of the loops. Each is stated over the width, the
 -- format or the element's type; proofs of functions cite these and open no definition.
-pub mod Lists
-pub mod Values
+pub mod Decoded
 pub mod Halves
 pub mod Filled
 pub mod Tabled

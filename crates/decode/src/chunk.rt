@@ -3,8 +3,9 @@
 ghost use mathlib.Core.Path.{_≡_};
 ghost use Prim.Native.Nat.{_*_};
 ghost use lib.ListN.{length};
-ghost use Rattle.decode.specs.Lists.{tab};
-ghost use Rattle.decode.specs.Values.{byte, short, int, float, double, number, values};
+ghost use Rattle.bigendian.specs.Lists.{tab};
+ghost use Rattle.decode.specs.Decoded.{byte, short, int, float, double, raw};
+ghost use Rattle.decode.specs.Inner.Chunks.{ofChunk};
 use crate::pattern::f32_of;
 use crate::pattern::f64_of;
 use crate::pattern::i8_of;
@@ -18,9 +19,9 @@ use bigendian::number::be64;
 use bigendian::number::le32;
 
 // Bytes.
-pub fn decode_i8(src: &[u8], out: &mut [i8])
+pub(crate) fn decode_i8(src: &[u8], out: &mut [i8])
     requires { ⌜ length (now src) ≡ length (now out) ⌝ }
-    ensures { λ _. ⌜ now (out .exit) ≡ tab (values byte 1 (now (src .entry))) (length (now (out .entry))) ⌝ }
+    ensures { λ _. ⌜ now (out .exit) ≡ tab (ofChunk byte 1 (now (src .entry))) (length (now (out .entry))) ⌝ }
 {
     let mut i = 0;
     while i < out.len() {
@@ -30,9 +31,9 @@ pub fn decode_i8(src: &[u8], out: &mut [i8])
 }
 
 // Chars.
-pub fn decode_u8(src: &[u8], out: &mut [u8])
+pub(crate) fn decode_u8(src: &[u8], out: &mut [u8])
     requires { ⌜ length (now src) ≡ length (now out) ⌝ }
-    ensures { λ _. ⌜ now (out .exit) ≡ tab (values number 1 (now (src .entry))) (length (now (out .entry))) ⌝ }
+    ensures { λ _. ⌜ now (out .exit) ≡ tab (ofChunk raw 1 (now (src .entry))) (length (now (out .entry))) ⌝ }
 {
     let mut i = 0;
     while i < out.len() {
@@ -42,9 +43,9 @@ pub fn decode_u8(src: &[u8], out: &mut [u8])
 }
 
 // Shorts, two a turn out of one word, since LLVM joins two bytes into one load on x86 alone; then the odd last one.
-pub fn decode_i16(src: &[u8], out: &mut [i16])
+pub(crate) fn decode_i16(src: &[u8], out: &mut [i16])
     requires { ⌜ length (now src) ≡ 2 * length (now out) ⌝ }
-    ensures { λ _. ⌜ now (out .exit) ≡ tab (values short 2 (now (src .entry))) (length (now (out .entry))) ⌝ }
+    ensures { λ _. ⌜ now (out .exit) ≡ tab (ofChunk short 2 (now (src .entry))) (length (now (out .entry))) ⌝ }
 {
     let n = out.len();
     let h = n / 2;
@@ -63,9 +64,9 @@ pub fn decode_i16(src: &[u8], out: &mut [i16])
 }
 
 // Ints.
-pub fn decode_i32(src: &[u8], out: &mut [i32])
+pub(crate) fn decode_i32(src: &[u8], out: &mut [i32])
     requires { ⌜ length (now src) ≡ 4 * length (now out) ⌝ }
-    ensures { λ _. ⌜ now (out .exit) ≡ tab (values int 4 (now (src .entry))) (length (now (out .entry))) ⌝ }
+    ensures { λ _. ⌜ now (out .exit) ≡ tab (ofChunk int 4 (now (src .entry))) (length (now (out .entry))) ⌝ }
 {
     let mut i = 0;
     while i < out.len() {
@@ -75,9 +76,9 @@ pub fn decode_i32(src: &[u8], out: &mut [i32])
 }
 
 // Floats by value.
-pub fn decode_f32(src: &[u8], out: &mut [f32])
+pub(crate) fn decode_f32(src: &[u8], out: &mut [f32])
     requires { ⌜ length (now src) ≡ 4 * length (now out) ⌝ }
-    ensures { λ _. ⌜ now (out .exit) ≡ tab (values float 4 (now (src .entry))) (length (now (out .entry))) ⌝ }
+    ensures { λ _. ⌜ now (out .exit) ≡ tab (ofChunk float 4 (now (src .entry))) (length (now (out .entry))) ⌝ }
 {
     let mut i = 0;
     while i < out.len() {
@@ -87,9 +88,9 @@ pub fn decode_f32(src: &[u8], out: &mut [f32])
 }
 
 // Doubles by value.
-pub fn decode_f64(src: &[u8], out: &mut [f64])
+pub(crate) fn decode_f64(src: &[u8], out: &mut [f64])
     requires { ⌜ length (now src) ≡ 8 * length (now out) ⌝ }
-    ensures { λ _. ⌜ now (out .exit) ≡ tab (values double 8 (now (src .entry))) (length (now (out .entry))) ⌝ }
+    ensures { λ _. ⌜ now (out .exit) ≡ tab (ofChunk double 8 (now (src .entry))) (length (now (out .entry))) ⌝ }
 {
     let mut i = 0;
     while i < out.len() {
@@ -99,9 +100,9 @@ pub fn decode_f64(src: &[u8], out: &mut [f64])
 }
 
 // Floats by their bits: a NaN keeps its payload, and a host reads the same memory as floats.
-pub fn decode_u32(src: &[u8], out: &mut [u32])
+pub(crate) fn decode_u32(src: &[u8], out: &mut [u32])
     requires { ⌜ length (now src) ≡ 4 * length (now out) ⌝ }
-    ensures { λ _. ⌜ now (out .exit) ≡ tab (values number 4 (now (src .entry))) (length (now (out .entry))) ⌝ }
+    ensures { λ _. ⌜ now (out .exit) ≡ tab (ofChunk raw 4 (now (src .entry))) (length (now (out .entry))) ⌝ }
 {
     let mut i = 0;
     while i < out.len() {
@@ -111,9 +112,9 @@ pub fn decode_u32(src: &[u8], out: &mut [u32])
 }
 
 // Doubles by their bits.
-pub fn decode_u64(src: &[u8], out: &mut [u64])
+pub(crate) fn decode_u64(src: &[u8], out: &mut [u64])
     requires { ⌜ length (now src) ≡ 8 * length (now out) ⌝ }
-    ensures { λ _. ⌜ now (out .exit) ≡ tab (values number 8 (now (src .entry))) (length (now (out .entry))) ⌝ }
+    ensures { λ _. ⌜ now (out .exit) ≡ tab (ofChunk raw 8 (now (src .entry))) (length (now (out .entry))) ⌝ }
 {
     let mut i = 0;
     while i < out.len() {

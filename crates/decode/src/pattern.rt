@@ -1,6 +1,6 @@
 // The value that a pattern of bits stands for.
 ghost use mathlib.Core.Path.{_≡_};
-ghost use Rattle.decode.specs.Values.{byte, short, int, float, double};
+ghost use Rattle.decode.specs.Decoded.{byte, short, int, float, double};
 
 pub fn i8_of(b: u8) -> i8
     ensures { λ r. ⌜ r ≡ byte b ⌝ }

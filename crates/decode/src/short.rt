@@ -3,7 +3,7 @@ ghost use mathlib.Core.Path.{_≡_};
 ghost use Prim.Native.Nat.{_+_, _*_, _/_, _%_, _<_, _≤_};
 ghost use lib.ListN.{length};
 ghost use Rattle.bigendian.specs.Number.{be};
-ghost use Rattle.decode.specs.Halves.{swapped};
+ghost use Rattle.decode.specs.Inner.Halves.{swapped};
 
 fn wide16(b: u8) -> u16
     ensures { λ r. ⌜ (r ≡ b) × (r < 256) ⌝ }
@@ -20,13 +20,13 @@ pub fn be16(s: &[u8], at: usize) -> u16
 }
 
 // The lower half of a number of four bytes.
-pub fn low16(x: u32) -> u16
+pub(crate) fn low16(x: u32) -> u16
     ensures { λ r. ⌜ r ≡ x % 65536 ⌝ }
 {
     (x % 65536) as u16
 }
 
-pub fn swap16(x: u16) -> u16
+pub(crate) fn swap16(x: u16) -> u16
     ensures { λ r. ⌜ r ≡ swapped x ⌝ }
 {
     x % 256 * 256 + x / 256

@@ -5,8 +5,9 @@ ghost use mathlib.Core.Path.{_≡_};
 ghost use mathlib.Core.List.{_++_};
 ghost use Prim.Native.Nat.{ℕ, _+_, _*_, _<_, _≤_};
 ghost use lib.ListN.{length, drop};
-ghost use Rattle.decode.specs.Lists.{table};
-ghost use Rattle.decode.specs.Values.{byte, short, int, float, double, number, rows};
+ghost use Rattle.bigendian.specs.Lists.{grid};
+ghost use Rattle.decode.specs.Decoded.{byte, short, int, float, double, raw};
+ghost use Rattle.decode.specs.Inner.Chunks.{ofRecord};
 use crate::chunk::decode_f32;
 use crate::chunk::decode_f64;
 use crate::chunk::decode_i8;
@@ -19,7 +20,7 @@ use crate::chunk::decode_u64;
 pub fn records_i8(src: &[u8], out: &mut [i8], count: usize, chunk: usize, stride: usize)
     requires { ⌜ count * chunk ≤ length (now out) ⌝ }
     requires { ⌜ ((k : ℕ) → k < count → k * stride + chunk ≤ length (now src)) ⌝ }
-    ensures { λ _. ⌜ now (out .exit) ≡ table (rows byte 1 (now (src .entry)) stride) chunk count ++ drop (count * chunk) (now (out .entry)) ⌝ }
+    ensures { λ _. ⌜ now (out .exit) ≡ grid (ofRecord byte 1 (now (src .entry)) stride) chunk count ++ drop (count * chunk) (now (out .entry)) ⌝ }
 {
     let mut k = 0;
     while k < count {
@@ -35,7 +36,7 @@ pub fn records_i8(src: &[u8], out: &mut [i8], count: usize, chunk: usize, stride
 pub fn records_u8(src: &[u8], out: &mut [u8], count: usize, chunk: usize, stride: usize)
     requires { ⌜ count * chunk ≤ length (now out) ⌝ }
     requires { ⌜ ((k : ℕ) → k < count → k * stride + chunk ≤ length (now src)) ⌝ }
-    ensures { λ _. ⌜ now (out .exit) ≡ table (rows number 1 (now (src .entry)) stride) chunk count ++ drop (count * chunk) (now (out .entry)) ⌝ }
+    ensures { λ _. ⌜ now (out .exit) ≡ grid (ofRecord raw 1 (now (src .entry)) stride) chunk count ++ drop (count * chunk) (now (out .entry)) ⌝ }
 {
     let mut k = 0;
     while k < count {
@@ -51,7 +52,7 @@ pub fn records_u8(src: &[u8], out: &mut [u8], count: usize, chunk: usize, stride
 pub fn records_i16(src: &[u8], out: &mut [i16], count: usize, chunk: usize, stride: usize)
     requires { ⌜ count * chunk ≤ length (now out) ⌝ }
     requires { ⌜ ((k : ℕ) → k < count → k * stride + 2 * chunk ≤ length (now src)) ⌝ }
-    ensures { λ _. ⌜ now (out .exit) ≡ table (rows short 2 (now (src .entry)) stride) chunk count ++ drop (count * chunk) (now (out .entry)) ⌝ }
+    ensures { λ _. ⌜ now (out .exit) ≡ grid (ofRecord short 2 (now (src .entry)) stride) chunk count ++ drop (count * chunk) (now (out .entry)) ⌝ }
 {
     let mut k = 0;
     while k < count {
@@ -67,7 +68,7 @@ pub fn records_i16(src: &[u8], out: &mut [i16], count: usize, chunk: usize, stri
 pub fn records_i32(src: &[u8], out: &mut [i32], count: usize, chunk: usize, stride: usize)
     requires { ⌜ count * chunk ≤ length (now out) ⌝ }
     requires { ⌜ ((k : ℕ) → k < count → k * stride + 4 * chunk ≤ length (now src)) ⌝ }
-    ensures { λ _. ⌜ now (out .exit) ≡ table (rows int 4 (now (src .entry)) stride) chunk count ++ drop (count * chunk) (now (out .entry)) ⌝ }
+    ensures { λ _. ⌜ now (out .exit) ≡ grid (ofRecord int 4 (now (src .entry)) stride) chunk count ++ drop (count * chunk) (now (out .entry)) ⌝ }
 {
     let mut k = 0;
     while k < count {
@@ -83,7 +84,7 @@ pub fn records_i32(src: &[u8], out: &mut [i32], count: usize, chunk: usize, stri
 pub fn records_f32(src: &[u8], out: &mut [f32], count: usize, chunk: usize, stride: usize)
     requires { ⌜ count * chunk ≤ length (now out) ⌝ }
     requires { ⌜ ((k : ℕ) → k < count → k * stride + 4 * chunk ≤ length (now src)) ⌝ }
-    ensures { λ _. ⌜ now (out .exit) ≡ table (rows float 4 (now (src .entry)) stride) chunk count ++ drop (count * chunk) (now (out .entry)) ⌝ }
+    ensures { λ _. ⌜ now (out .exit) ≡ grid (ofRecord float 4 (now (src .entry)) stride) chunk count ++ drop (count * chunk) (now (out .entry)) ⌝ }
 {
     let mut k = 0;
     while k < count {
@@ -99,7 +100,7 @@ pub fn records_f32(src: &[u8], out: &mut [f32], count: usize, chunk: usize, stri
 pub fn records_f64(src: &[u8], out: &mut [f64], count: usize, chunk: usize, stride: usize)
     requires { ⌜ count * chunk ≤ length (now out) ⌝ }
     requires { ⌜ ((k : ℕ) → k < count → k * stride + 8 * chunk ≤ length (now src)) ⌝ }
-    ensures { λ _. ⌜ now (out .exit) ≡ table (rows double 8 (now (src .entry)) stride) chunk count ++ drop (count * chunk) (now (out .entry)) ⌝ }
+    ensures { λ _. ⌜ now (out .exit) ≡ grid (ofRecord double 8 (now (src .entry)) stride) chunk count ++ drop (count * chunk) (now (out .entry)) ⌝ }
 {
     let mut k = 0;
     while k < count {
@@ -115,7 +116,7 @@ pub fn records_f64(src: &[u8], out: &mut [f64], count: usize, chunk: usize, stri
 pub fn records_u32(src: &[u8], out: &mut [u32], count: usize, chunk: usize, stride: usize)
     requires { ⌜ count * chunk ≤ length (now out) ⌝ }
     requires { ⌜ ((k : ℕ) → k < count → k * stride + 4 * chunk ≤ length (now src)) ⌝ }
-    ensures { λ _. ⌜ now (out .exit) ≡ table (rows number 4 (now (src .entry)) stride) chunk count ++ drop (count * chunk) (now (out .entry)) ⌝ }
+    ensures { λ _. ⌜ now (out .exit) ≡ grid (ofRecord raw 4 (now (src .entry)) stride) chunk count ++ drop (count * chunk) (now (out .entry)) ⌝ }
 {
     let mut k = 0;
     while k < count {
@@ -131,7 +132,7 @@ pub fn records_u32(src: &[u8], out: &mut [u32], count: usize, chunk: usize, stri
 pub fn records_u64(src: &[u8], out: &mut [u64], count: usize, chunk: usize, stride: usize)
     requires { ⌜ count * chunk ≤ length (now out) ⌝ }
     requires { ⌜ ((k : ℕ) → k < count → k * stride + 8 * chunk ≤ length (now src)) ⌝ }
-    ensures { λ _. ⌜ now (out .exit) ≡ table (rows number 8 (now (src .entry)) stride) chunk count ++ drop (count * chunk) (now (out .entry)) ⌝ }
+    ensures { λ _. ⌜ now (out .exit) ≡ grid (ofRecord raw 8 (now (src .entry)) stride) chunk count ++ drop (count * chunk) (now (out .entry)) ⌝ }
 {
     let mut k = 0;
     while k < count {

@@ -4,3 +4,4 @@ pub mod Examples
 pub mod Versions
 pub mod RecordCount
 pub mod ValueReads
+pub mod Laid

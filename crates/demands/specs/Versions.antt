@@ -10,7 +10,7 @@ use lib.Dec.{eqb}
 use Rattle.cdf.specs.Magic.{cdf, bothVersions}
 use Rattle.cdf.specs.declared.version.Admitted.{Admitted}
 use Rattle.header.specs.Header.{readHeader, refusal}
-use Rattle.header.specs.Records.{maxPosition}
+use Rattle.sizes.specs.Records.{maxPosition}
 
 -- a reader that admits version v alone
 abbrev pub only : ℕ → Admitted
@@ -18,7 +18,7 @@ only v = record { classic = eqb v 1; offset64 = eqb v 2 }
 
 -- the prefix starts with CDF, has a fourth byte, and that is not v
 pub record Another (s : List ℕ) (v : ℕ) : Type 0 where
-  pub begins : take 3 s ≡ cdf
+  pub starts : take 3 s ≡ cdf
   pub four : 3 < length s
   pub other : getD s 3 0 ≡ v → ⊥
 

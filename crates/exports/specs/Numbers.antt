@@ -1,22 +1,20 @@
--- How an answer of the header reader crosses to another language: as numbers (01, Answer numbers; 22: output too short).
+-- How an answer of the header reader crosses to another language: as numbers (01, Answer numbers).
 use Prim.Native.Nat.{ℕ}
-use mathlib.Core.Bool.{cond}
 use mathlib.Core.List.{List, [], _∷_, _++_}
 use lib.ListN.{length, drop}
-use lib.Dec.{ltb}
+use lib.Dec.{leb}
 use Rattle.cdf.specs.Magic.{bothVersions}
-use Rattle.header.specs.Header.{readHeader}
+use Rattle.cdf.specs.Step.{Step, got, need}
+use Rattle.header.specs.Header.{readHeader, afterHeader}
 use Rattle.header.specs.declared.reader.Header.{Header}
 
--- place, header's end, record count, version; how many dimensions, attributes, global attributes, variables
+-- header's end, record count, version; how many dimensions, attributes, global attributes, variables
 unfoldable pub numbersOf : Header → List ℕ
-numbersOf h =
-    h .place ∷ h .end ∷ h .tables .count ∷ h .tables .version ∷ h .tables .ndims ∷ h .tables .nattrs ∷ h .tables .globals ∷ h .tables .nvars ∷ []
+numbersOf h = h .end ∷ h .tables .count ∷ h .tables .version ∷ h .tables .ndims ∷ h .tables .nattrs ∷ h .tables .globals ∷ h .tables .nvars ∷ []
 
--- the answer number, where the output has `room` places
-unfoldable pub answered : List ℕ → ℕ → ℕ → ℕ
-answered s size room = cond (ltb room 8) 22 (readHeader s size bothVersions .number)
-
--- the output: untouched where it is too short, else the numbers and then what stood there
-unfoldable pub written : List ℕ → ℕ → List ℕ → List ℕ
-written s size d = cond (ltb (length d) 8) d (numbersOf (readHeader s size bothVersions) ++ drop 8 d)
+-- the header's numbers in an output: the header's refusals, then 22; what lies after the numbers stays
+unfoldable pub headerNumbers : List ℕ → ℕ → List ℕ → Step (List ℕ)
+headerNumbers s size out =
+    afterHeader (readHeader s size bothVersions) (λ h.
+    need (leb 7 (length out)) 22 0 (
+    got (numbersOf h ++ drop 7 out) 0))

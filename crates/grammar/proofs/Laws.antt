@@ -1,4 +1,5 @@
 -- The laws of the definitions in specs/, under the same file names; `Lists` has those of the lists' parts.
 pub mod Tables
-pub mod Within
 pub mod Lists
+pub mod Within
+pub mod Meaning

@@ -1,16 +1,15 @@
--- What tables say, without positions and without rows past a count (01: "Rows past a count are zero; table equality skips them and takes names and attributes by their bytes").
-use Prim.Native.Nat.{ℕ, zero, suc, _+_, _*_}
-use mathlib.Core.Path.{_≡_}
-use mathlib.Core.List.{List, [], _∷_, _++_}
+-- What a header says, without positions and without rows past a count (01: "Rows past a count are zero; table equality skips them and takes
+-- names and attributes by their bytes").
+use Prim.Native.Nat.{ℕ, _*_}
+use mathlib.Core.List.{List, map}
+use lib.ListN.{take, drop}
 use Rattle.items.specs.Name.{part}
-use Rattle.items.specs.Types.{typeOf, sizeOf}
-use Rattle.grammar.specs.Tables.{dimAt, attrAt, varAt, idAt}
+use Rattle.items.specs.Types.{sizeOf}
+use Rattle.grammar.specs.Tree.{VarItem, Tree, tree}
+use Rattle.grammar.specs.declared.tables.Dim.{Dim}
+use Rattle.grammar.specs.declared.tables.Attr.{Attr}
+use Rattle.grammar.specs.declared.tables.Var.{Var}
 use Rattle.grammar.specs.declared.tables.Tables.{Tables}
-
--- g 0, g 1, .., g (n - 1)
-unfoldable pub rows : {A : Type 0} → (ℕ → A) → ℕ → List A
-rows g zero = []
-rows g (suc n) = rows g n ++ (g n ∷ [])
 
 -- a dimension: its name as bytes, and its length
 pub record Dimension : Type 0 where
@@ -33,7 +32,7 @@ pub record Variable : Type 0 where
   pub vsize : ℕ
   pub begin : ℕ
 
--- the whole of the tables
+-- the whole of a header, with its record count
 pub record Meaning : Type 0 where
   pub version : ℕ
   pub word : ℕ
@@ -43,46 +42,64 @@ pub record Meaning : Type 0 where
   pub globals : List Attribute
   pub variables : List Variable
 
-module _ (s : List ℕ) (t : Tables) where
-  -- the i-th dimension of the tables
-  abbrev pub dimension : ℕ → Dimension
-  dimension i = record { name = part s (dimAt t i .name) (dimAt t i .chars); extent = dimAt t i .length }
+module _ (s : List ℕ) where
+  -- a dimension by the bytes s
+  abbrev pub dimension : Dim → Dimension
+  dimension d = record { name = part s (d .name) (d .chars); extent = d .length }
 
-  -- the i-th attribute row of the tables
-  abbrev pub attribute : ℕ → Attribute
-  attribute i =
+  -- an attribute by the bytes s
+  abbrev pub attribute : Attr → Attribute
+  attribute a =
       record {
-        name = part s (attrAt t i .name) (attrAt t i .chars);
-        code = attrAt t i .code;
-        count = attrAt t i .count;
-        values = part s (attrAt t i .values) (attrAt t i .count * sizeOf (typeOf (attrAt t i .code)));
+        name = part s (a .name) (a .chars);
+        code = a .code;
+        count = a .count;
+        values = part s (a .values) (a .count * sizeOf (a .code));
       }
 
-  -- the i-th variable of the tables
-  abbrev pub variable : ℕ → Variable
-  variable i =
+  -- a variable by the bytes s
+  abbrev pub variable : VarItem → Variable
+  variable v =
       record {
-        name = part s (varAt t i .name) (varAt t i .chars);
-        ids = rows (idAt (varAt t i)) (varAt t i .rank);
-        attributes = rows (λ k. attribute (varAt t i .first + k)) (varAt t i .attrs);
-        code = varAt t i .code;
-        vsize = varAt t i .vsize;
-        begin = varAt t i .begin;
+        name = part s (v .name) (v .chars);
+        ids = v .ids;
+        attributes = map attribute (v .attrs);
+        code = v .code;
+        vsize = v .vsize;
+        begin = v .begin;
       }
 
-  -- 01, What is taken from the crate: version, count word, count and file size, and the rows below the counts
-  unfoldable pub meaning : Meaning
-  meaning =
+  -- 01, What is taken from the crate: version, count word, count and file size, and the three lists
+  unfoldable pub meaning : Tree → ℕ → Meaning
+  meaning h n =
       record {
-        version = t .version;
-        word = t .word;
-        count = t .count;
-        size = t .size;
-        dimensions = rows dimension (t .ndims);
-        globals = rows attribute (t .globals);
-        variables = rows variable (t .nvars);
+        version = h .version;
+        word = h .word;
+        count = n;
+        size = h .size;
+        dimensions = map dimension (h .dims);
+        globals = map attribute (h .globals);
+        variables = map variable (h .vars);
       }
 
--- 01's equality of tables: those of the bytes s and those of the bytes s′ say the same
-unfoldable pub EqualTables : List ℕ → Tables → List ℕ → Tables → Type 0
-EqualTables s t s′ t′ = meaning s t ≡ meaning s′ t′
+-- the variable of a row, whose attributes stand among the rows xs
+abbrev pub itemOf : List Attr → Var → VarItem
+itemOf xs v =
+    record {
+      name = v .name;
+      chars = v .chars;
+      ids = take (v .rank) (v .ids);
+      attrs = take (v .attrs) (drop (v .first) xs);
+      code = v .code;
+      vsize = v .vsize;
+      begin = v .begin;
+    }
+
+-- the tree that tables hold in the rows below their counts
+unfoldable pub held : Tables → Tree
+held t =
+    tree (t .version) (t .word) (t .size) (take (t .ndims) (t .dims)) (take (t .globals) (t .attrs)) (map (itemOf (t .attrs)) (take (t .nvars) (t .vars)))
+
+-- what tables of the bytes s say: 01's equality of tables is that they say the same
+abbrev pub said : List ℕ → Tables → Meaning
+said s t = meaning s (held t) (t .count)

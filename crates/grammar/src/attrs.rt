@@ -1,12 +1,17 @@
 // Attributes, and the list of the global ones.
 ghost use mathlib.Core.Path.{_≡_};
-ghost use Prim.Native.Nat.{_+_, _≤_, _<_};
+ghost use Prim.Native.Nat.{ℕ, _≤_};
+ghost use mathlib.Core.List.{List, []};
 ghost use lib.ListN.{length};
+ghost use Rattle.cdf.specs.Step.{into};
 ghost use Rattle.cdf.specs.Form.{form};
-ghost use Rattle.cdf.specs.Word.{ofWord};
-ghost use Rattle.grammar.specs.Dims.{ofListed};
-ghost use Rattle.grammar.specs.Attrs.{ofAttr, attrValues, attr, attrCount, globalList};
-ghost use Rattle.grammar.specs.Within.{Within};
+ghost use Rattle.cdf.specs.Inner.Answers.{ofWord};
+ghost use Rattle.grammar.specs.Inner.Answers.{ofListed, ofAttr};
+ghost use Rattle.grammar.specs.Attrs.{attr, attrList};
+ghost use Rattle.grammar.specs.Inner.Parts.{attrCount, attrValues};
+ghost use Rattle.grammar.specs.Tables.{laid};
+ghost use Rattle.grammar.specs.Tree.{tree};
+ghost use Rattle.grammar.specs.declared.tables.Dim.{Dim};
 use crate::tables::Attr;
 use crate::tables::Listed;
 use crate::tables::MAX_ATTRS;
@@ -55,7 +60,7 @@ fn parse_attr_values(s: &[u8], size: u64, at: usize, name: usize, chars: u16) ->
     }
 }
 
-pub fn parse_attr(s: &[u8], size: u64, at: usize, version: u8) -> AttrStep
+pub(crate) fn parse_attr(s: &[u8], size: u64, at: usize, version: u8) -> AttrStep
     requires { ⌜ at ≤ length (now s) ⌝ }
     ensures { λ r. ⌜ ofAttr r ≡ attr (form version) (now (s .entry)) size at ⌝ }
 {
@@ -66,7 +71,7 @@ pub fn parse_attr(s: &[u8], size: u64, at: usize, version: u8) -> AttrStep
 }
 
 // How many attributes the list at `at` has, where `used` rows are taken.
-pub fn parse_attr_count(s: &[u8], size: u64, at: usize, used: usize) -> Word
+pub(crate) fn parse_attr_count(s: &[u8], size: u64, at: usize, used: usize) -> Word
     requires { ⌜ (at ≤ length (now s)) × (used ≤ 128) ⌝ }
     ensures { λ r. ⌜ ofWord r ≡ attrCount (form 1) (now (s .entry)) size used at ⌝ }
 {
@@ -74,15 +79,15 @@ pub fn parse_attr_count(s: &[u8], size: u64, at: usize, used: usize) -> Word
 }
 
 // The list of global attributes at `at`.
-pub fn parse_global_attrs_list(
+pub(crate) fn parse_global_attrs_list(
     s: &[u8],
     size: u64,
     at: usize,
     version: u8,
     tables: Tables,
 ) -> Listed
-    requires { ⌜ (at ≤ length (now s)) × Within tables ⌝ }
-    ensures { λ r. ⌜ (ofListed r ≡ globalList (form version) (now (s .entry)) size tables at) × (r .tables .nvars ≡ tables .nvars) × Within (r .tables) ⌝ }
+    requires { ⌜ (at ≤ length (now s)) × (tables .nattrs ≡ 0) ⌝ }
+    ensures { λ r. ⌜ ((w : ℕ) (ds : List Dim) → tables ≡ laid (tree version w size ds [] []) → ofListed r ≡ into (λ gs. laid (tree version w size ds gs [])) (attrList (form version) (now (s .entry)) size (tables .nattrs) at)) ⌝ }
 {
     let mut t = tables;
     let used = t.nattrs;

@@ -1,10 +1,15 @@
 // The list of dimensions.
 ghost use mathlib.Core.Path.{_≡_};
-ghost use Prim.Native.Nat.{_+_, _≤_, _<_};
+ghost use Prim.Native.Nat.{_≤_};
+ghost use mathlib.Core.List.{[]};
 ghost use lib.ListN.{length};
+ghost use Rattle.cdf.specs.Step.{into};
 ghost use Rattle.cdf.specs.Form.{form};
-ghost use Rattle.grammar.specs.Dims.{ofDim, ofListed, dim, dimList};
-ghost use Rattle.grammar.specs.Within.{Within};
+ghost use Rattle.grammar.specs.Dims.{dim, dimList};
+ghost use Rattle.grammar.specs.Inner.Answers.{ofDim, ofListed};
+ghost use Rattle.grammar.specs.Tables.{laid};
+ghost use Rattle.grammar.specs.Inner.Parts.{started};
+ghost use Rattle.grammar.specs.Tree.{tree};
 use crate::tables::Dim;
 use crate::tables::Listed;
 use crate::tables::MAX_DIMS;
@@ -42,9 +47,9 @@ fn parse_dim(s: &[u8], size: u64, at: usize, version: u8) -> DimStep
 }
 
 // The list of dimensions at `at`, into tables that have none.
-pub fn parse_dims_list(s: &[u8], size: u64, at: usize, version: u8, tables: Tables) -> Listed
-    requires { ⌜ (at ≤ length (now s)) × (tables .ndims ≡ 0) × Within tables ⌝ }
-    ensures { λ r. ⌜ (ofListed r ≡ dimList (form version) (now (s .entry)) size tables at) × (r .tables .nvars ≡ tables .nvars) × Within (r .tables) ⌝ }
+pub(crate) fn parse_dims_list(s: &[u8], size: u64, at: usize, version: u8, tables: Tables) -> Listed
+    requires { ⌜ (at ≤ length (now s)) × (tables ≡ started version (tables .word) size) ⌝ }
+    ensures { λ r. ⌜ ofListed r ≡ into (λ ds. laid (tree version (tables .word) size ds [] [])) (dimList (form version) (now (s .entry)) size at) ⌝ }
 {
     let mut t = tables;
     match parse_list_start(s, size, at, DIMENSION_TAG, MAX_DIMS as u64) {

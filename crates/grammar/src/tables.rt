@@ -1,6 +1,7 @@
 // The tables that a header is read into. A position is one in the caller's bytes; rows past a count are zero.
 ghost use mathlib.Core.Path.{_≡_};
-ghost use Rattle.grammar.specs.Tables.{started, blank};
+ghost use Rattle.grammar.specs.Tables.{blank};
+ghost use Rattle.grammar.specs.Inner.Parts.{started};
 use cdf::step::Next;
 
 pub const MAX_DIMS: usize = 32;
@@ -70,7 +71,7 @@ pub struct Listed {
 }
 
 // Tables with no rows yet.
-pub fn started(version: u8, word: u64, size: u64) -> Tables
+pub(crate) fn started(version: u8, word: u64, size: u64) -> Tables
     ensures { λ r. ⌜ r ≡ started version word size ⌝ }
 {
     let dim = Dim {

@@ -1,12 +1,17 @@
 // The list of variables.
 ghost use mathlib.Core.Path.{_≡_};
-ghost use Prim.Native.Nat.{_+_, _≤_, _<_};
+ghost use Prim.Native.Nat.{ℕ, _+_, _≤_};
 ghost use lib.ListN.{length};
-ghost use Rattle.cdf.specs.Step.{many, stop};
+ghost use mathlib.Core.List.{List, []};
+ghost use Rattle.cdf.specs.Step.{stop, into};
 ghost use Rattle.cdf.specs.Form.{form};
-ghost use Rattle.grammar.specs.Dims.{ofListed};
-ghost use Rattle.grammar.specs.Vars.{ofRowed, ofStarted, ofTail, named, dimid, varHead, varStart, varTail, joined, varStep, varList};
-ghost use Rattle.grammar.specs.Within.{Within};
+ghost use Rattle.grammar.specs.Inner.Answers.{ofListed, ofRowed, ofStarted, ofTail};
+ghost use Rattle.grammar.specs.Tables.{laid, varRow};
+ghost use Rattle.grammar.specs.Inner.Parts.{VarHead, item, headed, varHead, varStart, begun, varTail, vars, dimids};
+ghost use Rattle.grammar.specs.Tree.{tree};
+ghost use Rattle.grammar.specs.Vars.{varList};
+ghost use Rattle.grammar.specs.declared.tables.Dim.{Dim};
+ghost use Rattle.grammar.specs.declared.tables.Attr.{Attr};
 use crate::attrs::AttrStep;
 use crate::attrs::parse_attr;
 use crate::attrs::parse_attr_count;
@@ -56,8 +61,8 @@ pub enum TailStep {
 
 // The `n` dimension ids from `at`.
 fn parse_dim_ids(s: &[u8], size: u64, at: usize, version: u8, n: usize, row: Var) -> Rowed
-    requires { ⌜ (at ≤ length (now s)) × (row .rank + n ≤ 8) ⌝ }
-    ensures { λ r. ⌜ (ofRowed r ≡ many (dimid (form version) (now (s .entry)) size) n row at) × (r .row .rank ≤ 8) ⌝ }
+    requires { ⌜ (at ≤ length (now s)) × (row .rank ≡ 0) × (n ≤ 8) ⌝ }
+    ensures { λ r. ⌜ ((m k : ℕ) → row ≡ headed (record { name = m; chars = k; ids = [] }) → ofRowed r ≡ into (λ is. headed (record { name = m; chars = k; ids = is })) (dimids (form version) (now (s .entry)) size n at)) ⌝ }
 {
     let mut v = row;
     let mut at = at;
@@ -87,7 +92,7 @@ fn parse_dim_ids(s: &[u8], size: u64, at: usize, version: u8, n: usize, row: Var
 
 // A row with its name alone.
 fn named(name: usize, chars: u32) -> Var
-    ensures { λ r. ⌜ r ≡ named name chars ⌝ }
+    ensures { λ r. ⌜ r ≡ headed (record { name = name; chars = chars; ids = [] }) ⌝ }
 {
     Var {
         name,
@@ -105,7 +110,7 @@ fn named(name: usize, chars: u32) -> Var
 // A variable's name, number of dimensions and their ids.
 fn parse_var_head(s: &[u8], size: u64, at: usize, version: u8) -> Rowed
     requires { ⌜ at ≤ length (now s) ⌝ }
-    ensures { λ r. ⌜ (ofRowed r ≡ varHead (form version) (now (s .entry)) size at) × (r .row .rank ≤ 8) ⌝ }
+    ensures { λ r. ⌜ ofRowed r ≡ into headed (varHead (form version) (now (s .entry)) size at) ⌝ }
 {
     match parse_name_string(s, size, at) {
         Word::Stop(k, p) => Rowed {
@@ -157,7 +162,7 @@ fn parse_var_tail(s: &[u8], size: u64, at: usize, version: u8) -> TailStep
 
 // The whole row of a variable whose `attrs` attributes start at the row `first`.
 fn joined(row: Var, first: u8, attrs: u8, tail: Tail) -> Var
-    ensures { λ r. ⌜ r ≡ joined row first attrs tail ⌝ }
+    ensures { λ r. ⌜ ((h : VarHead) (xs : List Attr) → row ≡ headed h → attrs ≡ length xs → r ≡ varRow first (item h xs tail)) ⌝ }
 {
     let mut v = row;
     v.first = first;
@@ -169,9 +174,8 @@ fn joined(row: Var, first: u8, attrs: u8, tail: Tail) -> Var
 }
 
 // A refusal on the way, with the tables as they are.
-pub fn stopped(k: u8, p: usize, tables: Tables) -> Listed
-    requires { ⌜ Within tables ⌝ }
-    ensures { λ r. ⌜ (ofListed r ≡ stop k p) × Within (r .tables) ⌝ }
+pub(crate) fn stopped(k: u8, p: usize, tables: Tables) -> Listed
+    ensures { λ r. ⌜ ofListed r ≡ stop k p ⌝ }
 {
     Listed {
         next: Next::Stop(k, p),
@@ -182,7 +186,7 @@ pub fn stopped(k: u8, p: usize, tables: Tables) -> Listed
 // A variable up to the first of its attributes, where `used` attribute rows are taken.
 fn parse_var_start(s: &[u8], size: u64, at: usize, version: u8, used: usize) -> Started
     requires { ⌜ (at ≤ length (now s)) × (used ≤ 128) ⌝ }
-    ensures { λ r. ⌜ (ofStarted r ≡ varStart (form version) (now (s .entry)) size used at) × (r .row .rank ≤ 8) × (used + r .attrs ≤ 128) ⌝ }
+    ensures { λ r. ⌜ (ofStarted r ≡ into begun (varStart (form version) (now (s .entry)) size used at)) × (used + r .attrs ≤ 128) ⌝ }
 {
     let head = parse_var_head(s, size, at, version);
     let next = head.next;
@@ -211,8 +215,8 @@ fn parse_var_start(s: &[u8], size: u64, at: usize, version: u8, used: usize) -> 
 // The `n` variables from `at`. The attributes of each are read in place: a call that took the
 // tables would copy them for every variable.
 fn parse_vars(s: &[u8], size: u64, at: usize, version: u8, n: usize, tables: Tables) -> Listed
-    requires { ⌜ (at ≤ length (now s)) × (tables .nvars + n ≤ 64) × Within tables ⌝ }
-    ensures { λ r. ⌜ (ofListed r ≡ many (varStep (form version) (now (s .entry)) size) n tables at) × Within (r .tables) ⌝ }
+    requires { ⌜ (at ≤ length (now s)) × (tables .nvars + n ≤ 64) × (tables .nattrs ≤ 128) ⌝ }
+    ensures { λ r. ⌜ ((w : ℕ) (ds : List Dim) (gs : List Attr) → tables ≡ laid (tree version w size ds gs []) → ofListed r ≡ into (λ vs. laid (tree version w size ds gs vs)) (vars (form version) (now (s .entry)) size (tables .nattrs) n at)) ⌝ }
 {
     let mut t = tables;
     let mut at = at;
@@ -258,9 +262,9 @@ fn parse_vars(s: &[u8], size: u64, at: usize, version: u8, n: usize, tables: Tab
 }
 
 // The list of variables at `at`, into tables that have none.
-pub fn parse_vars_list(s: &[u8], size: u64, at: usize, version: u8, tables: Tables) -> Listed
-    requires { ⌜ (at ≤ length (now s)) × (tables .nvars ≡ 0) × Within tables ⌝ }
-    ensures { λ r. ⌜ (ofListed r ≡ varList (form version) (now (s .entry)) size tables at) × Within (r .tables) ⌝ }
+pub(crate) fn parse_vars_list(s: &[u8], size: u64, at: usize, version: u8, tables: Tables) -> Listed
+    requires { ⌜ (at ≤ length (now s)) × (tables .nvars ≡ 0) × (tables .nattrs ≤ 128) ⌝ }
+    ensures { λ r. ⌜ ((w : ℕ) (ds : List Dim) (gs : List Attr) → tables ≡ laid (tree version w size ds gs []) → ofListed r ≡ into (λ vs. laid (tree version w size ds gs vs)) (varList (form version) (now (s .entry)) size (tables .nattrs) at)) ⌝ }
 {
     match parse_list_start(s, size, at, VARIABLE_TAG, MAX_VARS as u64) {
         Word::Stop(k, p) => stopped(k, p, tables),

@@ -2,10 +2,11 @@
 ghost use mathlib.Core.Path.{_≡_};
 ghost use Prim.Native.Nat.{_≤_};
 ghost use lib.ListN.{length};
-ghost use Rattle.cdf.specs.Form.{form};
-ghost use Rattle.grammar.specs.Dims.{ofListed};
-ghost use Rattle.grammar.specs.Grammar.{lists, header};
-ghost use Rattle.grammar.specs.Within.{Within};
+ghost use Rattle.cdf.specs.Step.{into};
+ghost use Rattle.grammar.specs.Inner.Answers.{ofListed};
+ghost use Rattle.grammar.specs.Grammar.{header};
+ghost use Rattle.grammar.specs.Inner.Parts.{lists, started};
+ghost use Rattle.grammar.specs.Tables.{laid};
 use crate::attrs::parse_global_attrs_list;
 use crate::dims::parse_dims_list;
 use crate::tables::Listed;
@@ -23,8 +24,8 @@ use cdf::word::parse_open_count;
 
 // The three lists at `at`, into tables that have no rows.
 fn parse_lists(s: &[u8], size: u64, at: usize, version: u8, tables: Tables) -> Listed
-    requires { ⌜ (at ≤ length (now s)) × (tables .ndims ≡ 0) × (tables .nvars ≡ 0) × Within tables ⌝ }
-    ensures { λ r. ⌜ (ofListed r ≡ lists (form version) (now (s .entry)) size tables at) × Within (r .tables) ⌝ }
+    requires { ⌜ (at ≤ length (now s)) × (tables ≡ started version (tables .word) size) ⌝ }
+    ensures { λ r. ⌜ ofListed r ≡ into laid (lists version (tables .word) (now (s .entry)) size at) ⌝ }
 {
     let dims = parse_dims_list(s, size, at, version, tables);
     let after_dims = dims.next;
@@ -45,7 +46,7 @@ fn parse_lists(s: &[u8], size: u64, at: usize, version: u8, tables: Tables) -> L
 
 // The header by its grammar, from the first byte on.
 pub fn parse_header(s: &[u8], size: u64, admitted: Admitted) -> Listed
-    ensures { λ r. ⌜ (ofListed r ≡ header admitted (now (s .entry)) size) × Within (r .tables) ⌝ }
+    ensures { λ r. ⌜ ofListed r ≡ into laid (header admitted (now (s .entry)) size) ⌝ }
 {
     match parse_magic_word(s, size) {
         Next::Stop(k, p) => stopped(k, p, blank()),

@@ -1,5 +1,2 @@
--- What the header reader judges and answers, as definitions. Each comment names the section of document 01 ("01, ..").
-pub mod Model
-pub mod Records
-pub mod Count
+-- What the header reader answers, as definitions. Each comment names the section of document 01 ("01, ..").
 pub mod Header

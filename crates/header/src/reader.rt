@@ -1,18 +1,18 @@
 // The header reader.
 ghost use mathlib.Core.Path.{_≡_};
-ghost use Rattle.header.specs.Header.{refusal, answer, judged, readHeader};
-ghost use Rattle.grammar.specs.Within.{Within};
-use crate::count::Counted;
-use crate::count::record_count;
-use crate::model::model_holds;
-use crate::records::ends_hold;
-use crate::records::measure;
+ghost use Rattle.header.specs.Header.{refusal, answer, judged, Conforms};
+ghost use Rattle.grammar.specs.Inner.Within.{Within};
 use cdf::step::Next;
 use cdf::version::Admitted;
 use grammar::tables::MAX_POSITION;
 use grammar::tables::Tables;
 use grammar::tables::blank;
 use grammar::whole::parse_header;
+use model::rules::model_holds;
+use sizes::count::Counted;
+use sizes::count::record_count;
+use sizes::records::ends_hold;
+use sizes::records::measure;
 
 // What the header reader answers: the number and place of a refusal, or 0 and the header's end.
 pub struct Header {
@@ -65,7 +65,7 @@ fn judged(s: &[u8], t: Tables, end: usize) -> Header
 
 // The header of a file of `size` bytes that starts with `prefix`, where its version is admitted.
 pub fn read_header(prefix: &[u8], size: u64, admitted: Admitted) -> Header
-    ensures { λ r. ⌜ r ≡ readHeader (now (prefix .entry)) size admitted ⌝ }
+    ensures { λ r. ⌜ Conforms (now (prefix .entry)) size admitted r ⌝ }
 {
     if size < prefix.len() as u64 {
         return refused(21, 0);

@@ -3,3 +3,4 @@ pub mod Digit
 pub mod Line
 pub mod Cut
 pub mod Text
+pub mod Lines

@@ -1,18 +1,17 @@
--- What a line answers (01, listing program: "one file a line in hexadecimal").
-use Prim.Native.Nat.{ℕ, _/_, _%_, _≤_}
+-- What a line is (01, listing program: "one file a line in hexadecimal").
+use Prim.Native.Nat.{ℕ, _/_, _%_}
 use mathlib.Core.Bool.{cond, _&&_}
 use mathlib.Core.List.{List}
-use lib.ListN.{length, take}
+use lib.ListN.{length}
 use lib.Dec.{ltb, eqb}
-use Rattle.hexlines.specs.Digit.{digits, spelled}
-use Rattle.hexlines.specs.declared.line.Line.{Line}
-use Rattle.hexlines.specs.declared.line.Line.the-variants.{Long, Hex, File}
+use Rattle.bigendian.specs.Lists.{tab}
+use Rattle.hexlines.specs.Digit.{areDigits, pair}
 
--- what a line is (01, the listing program): long, no hexadecimal, or the bytes of a file
-pub data Answer : Type 0 where
-  long : Answer
-  hex : Answer
-  file : List ℕ → Answer
+-- too long, no hexadecimal, or the bytes of a file
+pub data LineKind : Type 0 where
+  long : LineKind
+  hex : LineKind
+  file : List ℕ → LineKind
 
 -- 01: "A line above 16384 characters"
 abbrev pub longest : ℕ
@@ -20,19 +19,7 @@ longest = 16384
 
 -- 01: "A line above 16384 characters prints `long`; else an odd length, or a character that is no hex digit of either case,
 -- prints `hex`". A character is a byte.
-unfoldable pub answer : List ℕ → Answer
-answer s =
+unfoldable pub kindOf : List ℕ → LineKind
+kindOf s =
     cond (ltb longest (length s)) long
-    (cond (eqb (length s % 2) 0 && digits (length s) s) (file (spelled (length s / 2) s)) hex)
-
--- what the answer of the function means, where `bytes` holds the file: its length and its bytes
-abbrev pub ofLine : Line → List ℕ → Answer
-ofLine Long bytes = long
-ofLine Hex bytes = hex
-ofLine (File n) bytes = file (take n bytes)
-
--- the length of the file
-abbrev pub size : Line → ℕ
-size Long = 0
-size Hex = 0
-size (File n) = n
+    (cond (eqb (length s % 2) 0 && areDigits (length s) s) (file (tab (pair s) (length s / 2))) hex)

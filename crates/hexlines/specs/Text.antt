@@ -1,31 +1,24 @@
--- Numbers in decimal, and text that grows in a buffer.
-use Prim.Native.Nat.{ℕ, _+_, _^_}
-use mathlib.Core.Bool.{_||_}
-use mathlib.Core.Path.{_≡_}
+-- Numbers in decimal, and fields (01, listing program: "Fields: answer number, place, record count, header end").
+use Prim.Native.Nat.{ℕ, _^_}
+use mathlib.Core.Bool.{_&&_}
 use mathlib.Core.List.{List, [], _∷_, _++_}
-use lib.ListN.{length, take}
-use lib.Dec.{leb, eqb}
-use Rattle.cdf.specs.Below.{firstBelow}
+use lib.Dec.{ltb}
+use Rattle.cdf.specs.Below.{firstWhere}
 use Rattle.io.specs.Digits.{digits}
 
--- the digits of n in decimal, with none in front that could go: the fewest from 1 on whose power of ten is above n (20 hold
--- every number of 64 bits)
+-- the digits of n in decimal, with none in front that could go: the fewest from 1 on whose power of ten is above n. Asked only of numbers of 64
+-- bits, which 20 hold
 unfoldable pub places : ℕ → ℕ
-places n = firstBelow 20 (λ k. eqb k 0 || leb (10 ^ k) n)
+places n = firstWhere 20 (λ k. ltb 0 k && ltb n (10 ^ k))
 
 -- a number in decimal digits
 unfoldable pub decimal : ℕ → List ℕ
 decimal n = digits 10 (places n) n
 
--- `after` starts with r characters: the first `at` of `before`, then `added`
-pub record Grown (before : List ℕ) (at : ℕ) (added : List ℕ) (after : List ℕ) (r : ℕ) : Type 0 where
-  pub place : r ≡ at + length added
-  pub text : take r after ≡ take at before ++ added
-
 -- a field, and the character after it
 unfoldable pub field : ℕ → ℕ → List ℕ
 field n c = decimal n ++ (c ∷ [])
 
--- 01, listing program: "Fields: answer number, place, record count, header end", with a space (32) between them and a line end (10)
-unfoldable pub fields : ℕ → ℕ → ℕ → ℕ → List ℕ
-fields number place records end = field number 32 ++ (field place 32 ++ (field records 32 ++ field end 10))
+-- the four fields, with a space (32) between them and a line end (10)
+unfoldable pub fieldText : ℕ → ℕ → ℕ → ℕ → List ℕ
+fieldText number place records end = field number 32 ++ (field place 32 ++ (field records 32 ++ field end 10))

@@ -3,7 +3,7 @@ ghost use mathlib.Core.Path.{_≡_};
 ghost use mathlib.Core.List.{[], _∷_, _++_};
 ghost use Prim.Native.Nat.{_+_, _≤_, _<_};
 ghost use lib.ListN.{length, take};
-ghost use Rattle.hexlines.specs.Cut.{Cuts, kept};
+ghost use Rattle.hexlines.specs.Inner.Cut.{Cuts, kept};
 
 // One more than the longest line, so that a longer one shows.
 pub const KEPT: usize = 16385;

@@ -3,10 +3,10 @@ ghost use mathlib.Core.Path.{_≡_};
 ghost use Rattle.hexlines.specs.Digit.{worth};
 
 // What `worth` answers for a character that is no digit.
-pub const NO_DIGIT: u8 = 16;
+pub(crate) const NO_DIGIT: u8 = 16;
 
 // What the digit `c` of either case is worth.
-pub fn worth(c: u8) -> u8
+pub(crate) fn worth(c: u8) -> u8
     ensures { λ r. ⌜ r ≡ worth c ⌝ }
 {
     if c < b'0' {

@@ -3,8 +3,10 @@ ghost use mathlib.Core.Path.{_≡_};
 ghost use mathlib.Core.Bool.{true};
 ghost use Prim.Native.Nat.{_*_, _≤_};
 ghost use lib.ListN.{length, take};
-ghost use Rattle.hexlines.specs.Digit.{digits, spelled};
-ghost use Rattle.hexlines.specs.Line.{answer, ofLine, size};
+ghost use Rattle.bigendian.specs.Lists.{tab};
+ghost use Rattle.hexlines.specs.Digit.{areDigits, pair};
+ghost use Rattle.hexlines.specs.Line.{kindOf};
+ghost use Rattle.hexlines.specs.Inner.Answers.{ofLine, fileSize};
 use crate::digit::NO_DIGIT;
 use crate::digit::worth;
 
@@ -20,8 +22,8 @@ pub enum Line {
 // Whether the first 2 `n` characters of `text` are digits; the `n` bytes that they spell go to the start of `file`.
 fn decode(text: &[u8], n: usize, file: &mut [u8]) -> bool
     requires { ⌜ (n * 2 ≤ length (now text)) × (n ≤ length (now file)) ⌝ }
-    ensures { λ r. ⌜ r ≡ digits (n * 2) (now (text .entry)) ⌝ }
-    ensures { λ r. ⌜ (r ≡ true → take n (now (file .exit)) ≡ spelled n (now (text .entry))) ⌝ }
+    ensures { λ r. ⌜ r ≡ areDigits (n * 2) (now (text .entry)) ⌝ }
+    ensures { λ r. ⌜ (r ≡ true → take n (now (file .exit)) ≡ tab (pair (now (text .entry))) n) ⌝ }
 {
     let mut i = 0;
     while i < n {
@@ -42,8 +44,8 @@ fn decode(text: &[u8], n: usize, file: &mut [u8]) -> bool
 // What the line `text` answers; the bytes of its file go to the start of `file`.
 pub fn line_answer(text: &[u8], file: &mut [u8]) -> Line
     requires { ⌜ 8192 ≤ length (now file) ⌝ }
-    ensures means { λ r. ⌜ ofLine r (now (file .exit)) ≡ answer (now (text .entry)) ⌝ }
-    ensures fits { λ r. ⌜ size r ≤ 8192 ⌝ }
+    ensures means { λ r. ⌜ ofLine r (now (file .exit)) ≡ kindOf (now (text .entry)) ⌝ }
+    ensures fits { λ r. ⌜ fileSize r ≤ 8192 ⌝ }
 {
     let n = text.len();
     if MAX_LINE < n {

@@ -2,7 +2,8 @@
 ghost use Prim.Native.Nat.{_+_, _≤_};
 ghost use mathlib.Core.List.{[], _∷_};
 ghost use lib.ListN.{length};
-ghost use Rattle.hexlines.specs.Text.{decimal, field, fields, Grown};
+ghost use Rattle.hexlines.specs.Text.{decimal, field, fieldText};
+ghost use Rattle.hexlines.specs.Inner.Grown.{Grown};
 
 // Puts `more` behind the first `at` bytes of `out`, and answers where it ends.
 pub fn put_text(out: &mut [u8], at: usize, more: &[u8]) -> usize
@@ -54,7 +55,7 @@ pub fn put_fields(
     end: u64,
 ) -> usize
     requires { ⌜ at + 84 ≤ length (now out) ⌝ }
-    ensures { λ r. ⌜ Grown (now (out .entry)) at (fields number place records end) (now (out .exit)) r × (r ≤ at + 84) ⌝ }
+    ensures { λ r. ⌜ Grown (now (out .entry)) at (fieldText number place records end) (now (out .exit)) r × (r ≤ at + 84) ⌝ }
 {
     let a = put_field(out, at, number, b' ');
     let b = put_field(out, a, place, b' ');

@@ -3,3 +3,4 @@ pub mod Utf8
 pub mod Name
 pub mod Types
 pub mod Values
+pub mod Inner

@@ -1,10 +1,12 @@
 -- A name (01, Header grammar: "Name: length word, bytes, padding"; BNF: name, namestring).
 use Prim.Native.Nat.{ℕ, _+_}
+use mathlib.Core.Bool.{Bool}
 use mathlib.Core.List.{List}
-use lib.ListN.{length, take, drop}
-use lib.Dec.{leb}
-use Rattle.cdf.specs.Step.{Step, got, stop, bind, test, unfinished}
-use Rattle.cdf.specs.Word.{count}
+use lib.ListN.{getD, take, drop}
+use lib.Dec.{eqb}
+use Rattle.cdf.specs.Step.{Step, got, bind, need, atHand}
+use Rattle.cdf.specs.Below.{allBelow}
+use Rattle.cdf.specs.Word.{nelems}
 use Rattle.cdf.specs.Padding.{zeroPadding}
 use Rattle.items.specs.Utf8.{utf8}
 
@@ -16,11 +18,16 @@ longestName = 256
 abbrev pub part : List ℕ → ℕ → ℕ → List ℕ
 part s at n = take n (drop at s)
 
--- 01, number 6: once all n bytes of the name are at hand, at the first of them
-unfoldable pub nameBytes : ℕ → List ℕ → ℕ → ℕ → Step Unit
-nameBytes n s size at = test (leb (at + n) (length s)) (test (utf8 (part s at n)) (got tt (at + n)) (stop 6 at)) (unfinished s size)
+-- the n bytes of s from the place `at` are those of s′ from the place `at′`
+unfoldable pub sameBytes : List ℕ → ℕ → List ℕ → ℕ → ℕ → Bool
+sameBytes s at s′ at′ n = allBelow n (λ k. eqb (getD s (at + k) 0) (getD s′ (at′ + k) 0))
 
--- its value is the number of its bytes, which stand after the length word
+-- BNF: name = nelems namestring. 01, number 6: once all n bytes of the name are at hand, at the first of them. Its value is their number; they
+-- stand after the length word
 unfoldable pub name : ℕ → List ℕ → ℕ → ℕ → Step ℕ
 name k s size at =
-    bind (count longestName k s size at) (λ n p. bind (nameBytes n s size p) (λ _ e. bind (zeroPadding n s size e) (λ _ q. got n q)))
+    bind (nelems longestName k s size at) (λ n p.
+    atHand s size p n (
+    need (utf8 (part s p n)) 6 p (
+    bind (zeroPadding n s size (p + n)) (λ _ e.
+    got n e))))

@@ -1,8 +1,9 @@
 -- Well-formed UTF-8 (01, Header grammar: "UTF-8 as in Unicode's table of well-formed sequences"; the Unicode Standard, table 3-7).
 use Prim.Native.Nat.{ℕ, _-_}
-use mathlib.Core.Bool.{Bool, false, cond, _&&_}
+use mathlib.Core.Bool.{Bool, false, cond}
 use mathlib.Core.List.{List, [], _∷_}
-use lib.Dec.{leb, eqb}
+use lib.Dec.{eqb}
+use Rattle.cdf.specs.Below.{between}
 use Rattle.items.specs.declared.utf8.Due.{Due}
 use Rattle.items.specs.declared.utf8.Scanned.{Scanned}
 use Rattle.items.specs.declared.utf8.Scanned.the-variants.{Good, Bad}
@@ -16,8 +17,8 @@ pub record Row : Type 0 where
   pub high : ℕ
 
 -- table 3-7. Its first row, 00 to 7F, has no second byte
-abbrev pub table : List Row
-table =
+abbrev pub sequences : List Row
+sequences =
     record { from = 0x00; to = 0x7F; more = 0; low = 0x80; high = 0xBF }
     ∷ record { from = 0xC2; to = 0xDF; more = 1; low = 0x80; high = 0xBF }
     ∷ record { from = 0xE0; to = 0xE0; more = 2; low = 0xA0; high = 0xBF }
@@ -29,44 +30,24 @@ table =
     ∷ record { from = 0xF4; to = 0xF4; more = 3; low = 0x80; high = 0x8F }
     ∷ []
 
--- a byte from `low` to `high`, both included
-abbrev pub between : ℕ → ℕ → ℕ → Bool
-between low high b = leb low b && leb b high
-
--- the row of a table that has a byte first, or one that has no byte first
-unfoldable pub rowAmong : List Row → ℕ → Row
-rowAmong [] b = record { from = 1; to = 0; more = 0; low = 0x80; high = 0xBF }
-rowAmong (r ∷ rs) b = cond (between (r .from) (r .to) b) r (rowAmong rs b)
-
--- a sequence begun by the byte b: what is due after it
-unfoldable pub begun : Row → ℕ → Scanned
-begun r b = cond (between (r .from) (r .to) b) (Good (record { more = r .more; low = r .low; high = r .high })) Bad
+-- the first byte of a sequence: what is due after it, by the first row of a table that has it
+unfoldable pub opening : List Row → ℕ → Scanned
+opening [] b = Bad
+opening (r ∷ rs) b = cond (between (r .from) (r .to) b) (Good (record { more = r .more; low = r .low; high = r .high })) (opening rs b)
 
 -- one byte more: the first of a sequence where none is due, else the next one due
 unfoldable pub after : Due → ℕ → Scanned
 after d b =
-    cond (eqb (d .more) 0) (begun (rowAmong table b) b)
+    cond (eqb (d .more) 0) (opening sequences b)
     (cond (between (d .low) (d .high) b) (Good (record { more = d .more - 1; low = 0x80; high = 0xBF })) Bad)
 
--- a byte that does not fit spoils all that follows
-unfoldable pub next : Scanned → ℕ → Scanned
-next Bad b = Bad
-next (Good d) b = after d b
+-- the bytes of a text, one after the other: every byte fits, and none is due at the end
+unfoldable pub scan : List ℕ → Scanned → Bool
+scan [] Bad = false
+scan [] (Good d) = eqb (d .more) 0
+scan (b ∷ bs) Bad = false
+scan (b ∷ bs) (Good d) = scan bs (after d b)
 
--- every byte fitted and none is due
-unfoldable pub whole : Scanned → Bool
-whole Bad = false
-whole (Good d) = eqb (d .more) 0
-
--- the bytes of a text, one after the other
-unfoldable pub scan : List ℕ → Scanned → Scanned
-scan [] st = st
-scan (b ∷ bs) st = scan bs (next st b)
-
--- at a text's start, and after each whole sequence, no byte is due
-abbrev pub noneDue : Due
-noneDue = record { more = 0; low = 0x80; high = 0xBF }
-
--- 01: "UTF-8 as in Unicode's table of well-formed sequences"
+-- 01: "UTF-8 as in Unicode's table of well-formed sequences". At a text's start no byte is due
 unfoldable pub utf8 : List ℕ → Bool
-utf8 bs = whole (scan bs (Good noneDue))
+utf8 bs = scan bs (Good (record { more = 0; low = 0x80; high = 0xBF }))

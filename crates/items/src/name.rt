@@ -2,9 +2,9 @@
 ghost use mathlib.Core.Path.{_≡_};
 ghost use Prim.Native.Nat.{_≤_};
 ghost use lib.ListN.{length};
-ghost use Rattle.cdf.specs.Word.{ofWord};
-ghost use Rattle.cdf.specs.Magic.{ofNext};
-ghost use Rattle.items.specs.Name.{nameBytes, name};
+ghost use Rattle.cdf.specs.Inner.Answers.{ofWord, ofNext};
+ghost use Rattle.items.specs.Name.{name};
+ghost use Rattle.items.specs.Inner.NameBytes.{nameBytes};
 use crate::utf8::is_utf8;
 use cdf::padding::parse_zero_padding;
 use cdf::step::Next;

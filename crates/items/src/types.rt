@@ -2,7 +2,8 @@
 ghost use mathlib.Core.Path.{_≡_};
 ghost use Prim.Native.Nat.{_≤_};
 ghost use lib.ListN.{length};
-ghost use Rattle.items.specs.Types.{ofTyped, codeOf, sizeOf, typeOf, dataType};
+ghost use Rattle.items.specs.Types.{sizeOf, dataType};
+ghost use Rattle.items.specs.Inner.DataTypes.{ofTyped, codeOf};
 use cdf::step::Word;
 use cdf::word::parse_non_neg;
 
@@ -68,7 +69,7 @@ impl DataType {
 
     // The bytes of an element.
     pub fn size_of(self) -> u64
-        ensures { λ r. ⌜ r ≡ sizeOf self ⌝ }
+        ensures { λ r. ⌜ r ≡ sizeOf (codeOf self) ⌝ }
     {
         match self {
             DataType::I8 => DataType::SIZE_I8,
@@ -83,7 +84,7 @@ impl DataType {
     // The type of a code.
     pub fn of_code(code: u64) -> DataType
         requires { ⌜ (1 ≤ code) × (code ≤ 6) ⌝ }
-        ensures { λ r. ⌜ r ≡ typeOf code ⌝ }
+        ensures { λ r. ⌜ codeOf r ≡ code ⌝ }
     {
         match code {
             1 => DataType::I8,

@@ -1,6 +1,6 @@
 // Well-formed UTF-8, by table 3-7 of the Unicode Standard.
 ghost use mathlib.Core.Path.{_≡_};
-ghost use Rattle.items.specs.Utf8.{table, rowAmong, begun, after, utf8};
+ghost use Rattle.items.specs.Utf8.{sequences, opening, after, utf8};
 
 // What is due in a sequence that has begun: `more` bytes, the next of them from `low` to `high`.
 pub struct Due {
@@ -22,7 +22,7 @@ fn expect(more: u8, low: u8, high: u8) -> Scanned
 
 // The first byte of a sequence: the rows of the table, from its lowest byte to its highest.
 fn begun(b: u8) -> Scanned
-    ensures { λ r. ⌜ r ≡ begun (rowAmong table b) b ⌝ }
+    ensures { λ r. ⌜ r ≡ opening sequences b ⌝ }
 {
     if b < 0x80 {
         return expect(0, 0x80, 0xBF);
@@ -73,7 +73,7 @@ fn after(d: Due, b: u8) -> Scanned
 }
 
 // Whether all the bytes of `text` are well-formed sequences.
-pub fn is_utf8(text: &[u8]) -> bool
+pub(crate) fn is_utf8(text: &[u8]) -> bool
     ensures { λ r. ⌜ r ≡ utf8 (now (text .entry)) ⌝ }
 {
     let mut d = Due {

@@ -2,8 +2,8 @@
 ghost use mathlib.Core.Path.{_≡_};
 ghost use Prim.Native.Nat.{_<_, _≤_};
 ghost use lib.ListN.{length};
-ghost use Rattle.cdf.specs.Magic.{ofNext};
-ghost use Rattle.items.specs.Values.{bytes, values};
+ghost use Rattle.cdf.specs.Inner.Answers.{ofNext};
+ghost use Rattle.items.specs.Values.{values};
 use cdf::padding::parse_zero_padding;
 use cdf::step::Next;
 use cdf::step::unfinished;

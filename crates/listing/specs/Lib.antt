@@ -1,1 +1,2 @@
+-- What the listing program prints.
 pub mod Listing

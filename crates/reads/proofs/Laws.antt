@@ -1,6 +1,5 @@
 -- The laws of the definitions in specs/, under the same file names.
-pub mod Lookup
-pub mod Variable
-pub mod Values
+pub mod Sought
+pub mod Reads
 pub mod Element
-pub mod Stretch
+pub mod Bounded

@@ -1,46 +1,28 @@
 -- Element reads (01, Records: "answers one value of the variable's type, be it a whole number, float or double, bits kept").
 use Prim.Native.Nat.{ℕ}
-use mathlib.Core.List.{List}
-use lib.ListN.{length}
-use Rattle.cdf.specs.Step.{Step, got, stop, bind}
-use Rattle.items.specs.Types.{typeOf}
-use Rattle.items.specs.declared.types.DataType.{DataType}
-use Rattle.items.specs.declared.types.DataType.the-variants.{I8, U8, I16, I32, F32, F64}
-use Rattle.decode.specs.Values.{byte, short, int, float, double}
+use mathlib.Core.List.{List, [], _∷_}
+use lib.ListN.{length, getD}
+use lib.Dec.{ltb}
+use Rattle.cdf.specs.Step.{Step, got, stop, bind, need}
+use Rattle.decode.specs.Decoded.{byte, short, int, float, double}
 use Rattle.grammar.specs.declared.tables.Tables.{Tables}
-use Rattle.reads.specs.Variable.{sought, soughtAs}
-use Rattle.reads.specs.Values.{bits, elementSpot}
-use Rattle.reads.specs.declared.variable.Variable.{Variable}
+use Rattle.reads.specs.Sought.{sought, soughtAs}
+use Rattle.reads.specs.Reads.{elementAt, bits, holds}
+use Rattle.reads.specs.declared.variable.Spread.{Spread}
 use Rattle.reads.specs.declared.element.Value.{Value}
 use Rattle.reads.specs.declared.element.Value.the-variants.{Byte, Char, Short, Int, Float, Double, Refused}
 
--- the value of a type that bits stand for; a float and a double have their bits beside them
-abbrev pub valueOf : DataType → ℕ → Value
-valueOf I8 b = Byte (byte b)
-valueOf U8 b = Char b
-valueOf I16 b = Short (short b)
-valueOf I32 b = Int (int b)
-valueOf F32 b = Float (float b) b
-valueOf F64 b = Double (double b) b
-
--- the value that was read, or the number of the refusal
-abbrev pub valueAnswer : Step Value → Value
-valueAnswer (got x _) = x
-valueAnswer (stop k _) = Refused k
-
--- the answer number in an element read's answer (01, Answer numbers: "0 accepted")
-abbrev pub numberIn : Value → ℕ
-numberIn (Byte x) = 0
-numberIn (Char x) = 0
-numberIn (Short x) = 0
-numberIn (Int x) = 0
-numberIn (Float x b) = 0
-numberIn (Double x b) = 0
-numberIn (Refused k) = k
+-- the value that bits stand for, by the code of the type from 1 on; no type has the code 0. A float and a double have their bits beside them
+abbrev pub valueOf : ℕ → ℕ → Value
+valueOf code b = getD (Refused 0 ∷ Byte (byte b) ∷ Char b ∷ Short (short b) ∷ Int (int b) ∷ Float (float b) b ∷ Double (double b) b ∷ []) code (Refused 0)
 
 -- element e of record r of a variable that was found: 18, 19, 20
-unfoldable pub elementOf : List ℕ → ℕ → ℕ → ℕ → Variable → Step Value
-elementOf s start r e v = bind (elementSpot v (length s) start r e) (λ _ _. got (valueOf (typeOf (v .code)) (bits v s start r e)) 0)
+unfoldable pub elementOf : List ℕ → ℕ → ℕ → ℕ → Spread → Step Value
+elementOf s start r e v =
+    need (ltb r (v .records)) 18 0 (
+    need (ltb e (v .chunk)) 19 0 (
+    need (holds (length s) start (elementAt v r e) (v .width)) 20 0 (
+    got (valueOf (v .code) (bits v s start r e)) 0)))
 
 -- a read of unasked type: 23, 16, 18, 19, 20
 unfoldable pub elementRead : Tables → List ℕ → ℕ → ℕ → ℕ → ℕ → Step Value
@@ -49,3 +31,13 @@ elementRead t s start i r e = bind (sought t i) (λ v _. elementOf s start r e v
 -- a read of the type `code`: 23, 16, 17, 18, 19, 20
 unfoldable pub elementReadAs : ℕ → Tables → List ℕ → ℕ → ℕ → ℕ → ℕ → Step Value
 elementReadAs code t s start i r e = bind (soughtAs code t i) (λ v _. elementOf s start r e v)
+
+-- the number and the value of each case of an element read's answer: 0 and the value, or the refusal's and none
+abbrev pub ofValue : Value → Step Value
+ofValue (Byte x) = got (Byte x) 0
+ofValue (Char x) = got (Char x) 0
+ofValue (Short x) = got (Short x) 0
+ofValue (Int x) = got (Int x) 0
+ofValue (Float x b) = got (Float x b) 0
+ofValue (Double x b) = got (Double x b) 0
+ofValue (Refused k) = stop k 0

@@ -1,6 +1,5 @@
--- Name lookup and reads, as definitions. Each comment names the section of document 01 ("01, ..").
-pub mod Lookup
-pub mod Variable
-pub mod Values
+-- Reads, as definitions. Each comment names the section of document 01 ("01, ..").
+pub mod Sought
+pub mod Reads
 pub mod Element
-pub mod Stretch
+pub mod Inner

@@ -3,13 +3,13 @@ ghost use mathlib.Core.Path.{_≡_};
 ghost use Prim.Native.Nat.{_+_, _≤_};
 ghost use lib.ListN.{length};
 ghost use Rattle.bigendian.specs.Number.{be};
-ghost use Rattle.items.specs.Types.{typeOf, sizeOf};
-ghost use Rattle.reads.specs.Stretch.{Bounded};
-ghost use Rattle.reads.specs.Element.{valueOf, valueAnswer, elementOf, elementRead, elementReadAs};
+ghost use Rattle.items.specs.Types.{sizeOf};
+ghost use Rattle.reads.specs.Inner.Spot.{Bounded};
+ghost use Rattle.reads.specs.Element.{valueOf, elementOf, elementRead, elementReadAs, ofValue};
 use crate::place::Spot;
 use crate::place::element_spot;
 use crate::variable::Sought;
-use crate::variable::Variable;
+use crate::variable::Spread;
 use crate::variable::seek;
 use crate::variable::seek_as;
 use bigendian::number::be32;
@@ -37,7 +37,7 @@ pub enum Value {
 
 fn float_at(s: &[u8], at: usize) -> Value
     requires { ⌜ at + 4 ≤ length (now s) ⌝ }
-    ensures { λ r. ⌜ r ≡ valueOf (typeOf 5) (be 4 (now (s .entry)) at) ⌝ }
+    ensures { λ r. ⌜ r ≡ valueOf 5 (be 4 (now (s .entry)) at) ⌝ }
 {
     let bits = be32(s, at);
     Value::Float(f32_of(bits), bits)
@@ -45,7 +45,7 @@ fn float_at(s: &[u8], at: usize) -> Value
 
 fn double_at(s: &[u8], at: usize) -> Value
     requires { ⌜ at + 8 ≤ length (now s) ⌝ }
-    ensures { λ r. ⌜ r ≡ valueOf (typeOf 6) (be 8 (now (s .entry)) at) ⌝ }
+    ensures { λ r. ⌜ r ≡ valueOf 6 (be 8 (now (s .entry)) at) ⌝ }
 {
     let bits = be64(s, at);
     Value::Double(f64_of(bits), bits)
@@ -53,8 +53,8 @@ fn double_at(s: &[u8], at: usize) -> Value
 
 // The value of the type `code` at `at`.
 fn value_at(s: &[u8], at: usize, code: u8) -> Value
-    requires { ⌜ (at + sizeOf (typeOf code) ≤ length (now s)) × (1 ≤ code) × (code ≤ 6) ⌝ }
-    ensures { λ r. ⌜ r ≡ valueOf (typeOf code) (be (sizeOf (typeOf code)) (now (s .entry)) at) ⌝ }
+    requires { ⌜ (at + sizeOf code ≤ length (now s)) × (1 ≤ code) × (code ≤ 6) ⌝ }
+    ensures { λ r. ⌜ r ≡ valueOf code (be (sizeOf code) (now (s .entry)) at) ⌝ }
 {
     match DataType::of_code(code as u64) {
         DataType::I8 => Value::Byte(i8_of(s[at])),
@@ -67,9 +67,9 @@ fn value_at(s: &[u8], at: usize, code: u8) -> Value
 }
 
 // Element `e` of record `r` of a variable that was found.
-fn element_of(s: &[u8], start: u64, r: u64, e: u64, v: Variable) -> Value
+fn element_of(s: &[u8], start: u64, r: u64, e: u64, v: Spread) -> Value
     requires { ⌜ Bounded v ⌝ }
-    ensures { λ x. ⌜ x ≡ valueAnswer (elementOf (now (s .entry)) start r e v) ⌝ }
+    ensures { λ x. ⌜ ofValue x ≡ elementOf (now (s .entry)) start r e v ⌝ }
 {
     let code = v.code;
     match element_spot(v, s.len(), start, r, e) {
@@ -80,7 +80,7 @@ fn element_of(s: &[u8], start: u64, r: u64, e: u64, v: Variable) -> Value
 
 // Element `e` of record `r` of the variable `i`, whatever its type; `s` starts at the file's position `start`.
 pub fn read_element(t: Tables, s: &[u8], start: u64, i: usize, r: u64, e: u64) -> Value
-    ensures { λ x. ⌜ x ≡ valueAnswer (elementRead t (now (s .entry)) start i r e) ⌝ }
+    ensures { λ x. ⌜ ofValue x ≡ elementRead t (now (s .entry)) start i r e ⌝ }
 {
     match seek(t, i) {
         Sought::Refused(k) => Value::Refused(k),
@@ -90,7 +90,7 @@ pub fn read_element(t: Tables, s: &[u8], start: u64, i: usize, r: u64, e: u64) -
 
 // The same of a variable that must have the type `code`.
 fn read_element_as(code: u8, t: Tables, s: &[u8], start: u64, i: usize, r: u64, e: u64) -> Value
-    ensures { λ x. ⌜ x ≡ valueAnswer (elementReadAs code t (now (s .entry)) start i r e) ⌝ }
+    ensures { λ x. ⌜ ofValue x ≡ elementReadAs code t (now (s .entry)) start i r e ⌝ }
 {
     match seek_as(code, t, i) {
         Sought::Refused(k) => Value::Refused(k),
@@ -100,37 +100,37 @@ fn read_element_as(code: u8, t: Tables, s: &[u8], start: u64, i: usize, r: u64, 
 
 // The six typed reads: the case of the type that the name says, or the refusal.
 pub fn read_element_i8(t: Tables, s: &[u8], start: u64, i: usize, r: u64, e: u64) -> Value
-    ensures { λ x. ⌜ x ≡ valueAnswer (elementReadAs 1 t (now (s .entry)) start i r e) ⌝ }
+    ensures { λ x. ⌜ ofValue x ≡ elementReadAs 1 t (now (s .entry)) start i r e ⌝ }
 {
     read_element_as(DataType::CODE_I8, t, s, start, i, r, e)
 }
 
 pub fn read_element_u8(t: Tables, s: &[u8], start: u64, i: usize, r: u64, e: u64) -> Value
-    ensures { λ x. ⌜ x ≡ valueAnswer (elementReadAs 2 t (now (s .entry)) start i r e) ⌝ }
+    ensures { λ x. ⌜ ofValue x ≡ elementReadAs 2 t (now (s .entry)) start i r e ⌝ }
 {
     read_element_as(DataType::CODE_U8, t, s, start, i, r, e)
 }
 
 pub fn read_element_i16(t: Tables, s: &[u8], start: u64, i: usize, r: u64, e: u64) -> Value
-    ensures { λ x. ⌜ x ≡ valueAnswer (elementReadAs 3 t (now (s .entry)) start i r e) ⌝ }
+    ensures { λ x. ⌜ ofValue x ≡ elementReadAs 3 t (now (s .entry)) start i r e ⌝ }
 {
     read_element_as(DataType::CODE_I16, t, s, start, i, r, e)
 }
 
 pub fn read_element_i32(t: Tables, s: &[u8], start: u64, i: usize, r: u64, e: u64) -> Value
-    ensures { λ x. ⌜ x ≡ valueAnswer (elementReadAs 4 t (now (s .entry)) start i r e) ⌝ }
+    ensures { λ x. ⌜ ofValue x ≡ elementReadAs 4 t (now (s .entry)) start i r e ⌝ }
 {
     read_element_as(DataType::CODE_I32, t, s, start, i, r, e)
 }
 
 pub fn read_element_f32(t: Tables, s: &[u8], start: u64, i: usize, r: u64, e: u64) -> Value
-    ensures { λ x. ⌜ x ≡ valueAnswer (elementReadAs 5 t (now (s .entry)) start i r e) ⌝ }
+    ensures { λ x. ⌜ ofValue x ≡ elementReadAs 5 t (now (s .entry)) start i r e ⌝ }
 {
     read_element_as(DataType::CODE_F32, t, s, start, i, r, e)
 }
 
 pub fn read_element_f64(t: Tables, s: &[u8], start: u64, i: usize, r: u64, e: u64) -> Value
-    ensures { λ x. ⌜ x ≡ valueAnswer (elementReadAs 6 t (now (s .entry)) start i r e) ⌝ }
+    ensures { λ x. ⌜ ofValue x ≡ elementReadAs 6 t (now (s .entry)) start i r e ⌝ }
 {
     read_element_as(DataType::CODE_F64, t, s, start, i, r, e)
 }

@@ -3,23 +3,24 @@ ghost use mathlib.Core.Path.{_≡_};
 ghost use mathlib.Core.Bool.{true, cond};
 ghost use Prim.Native.Nat.{ℕ, _≤_, _<_};
 ghost use Rattle.grammar.specs.Tables.{idAt};
-ghost use Rattle.header.specs.Records.{chunk, recordSize, maxChunk};
-ghost use Rattle.reads.specs.Variable.{ofSought, rowHolds, shapeHolds, tablesHold, variable, sought, soughtAs};
+ghost use Rattle.sizes.specs.Records.{chunk, recordSize, maxChunk};
+ghost use Rattle.reads.specs.Sought.{shapeHolds, tablesHold, spread, sought, soughtAs};
+ghost use Rattle.reads.specs.Inner.Spot.{rowHolds, ofSought};
 use grammar::tables::MAX_DIMS;
 use grammar::tables::MAX_RANK;
 use grammar::tables::MAX_VARS;
 use grammar::tables::Tables;
 use grammar::tables::Var;
-use header::model::ids_hold;
-use header::records::Sizes;
-use header::records::chunk_len;
-use header::records::ends_hold;
-use header::records::is_record;
-use header::records::measure;
 use items::types::DataType;
+use model::rules::ids_hold;
+use sizes::records::Sizes;
+use sizes::records::chunk_len;
+use sizes::records::ends_hold;
+use sizes::records::is_record;
+use sizes::records::measure;
 
 // The numbers that a read needs of a variable.
-pub struct Variable {
+pub struct Spread {
     pub begin: u64,
     pub records: u64,
     pub step: u64,
@@ -29,7 +30,7 @@ pub struct Variable {
 }
 
 pub enum Sought {
-    Got(Variable),
+    Got(Spread),
     Refused(u8),
 }
 
@@ -106,14 +107,14 @@ fn records_of(records: bool, count: u64) -> u64
 }
 
 // The numbers of a row of tables that hold.
-fn described(t: Tables, v: Var, step: u64) -> Variable
+fn described(t: Tables, v: Var, step: u64) -> Spread
     requires { ⌜ (v .rank ≤ 8) × ((k : ℕ) → k < v .rank → idAt v k < 32) × (1 ≤ v .code) × (v .code ≤ 6) × (chunk (t .dims) v ≤ maxChunk) × (step ≡ recordSize t) ⌝ }
-    ensures { λ r. ⌜ r ≡ variable t v ⌝ }
+    ensures { λ r. ⌜ r ≡ spread t v ⌝ }
 {
     let dims = t.dims;
     let count = t.count;
     let kind = DataType::of_code(v.code as u64);
-    Variable {
+    Spread {
         begin: v.begin,
         records: records_of(is_record(dims, v), count),
         step,
@@ -124,7 +125,7 @@ fn described(t: Tables, v: Var, step: u64) -> Variable
 }
 
 // The variable `i`.
-pub fn seek(t: Tables, i: usize) -> Sought
+pub(crate) fn seek(t: Tables, i: usize) -> Sought
     ensures { λ r. ⌜ ofSought r ≡ sought t i ⌝ }
 {
     let tested = tables_hold(t);

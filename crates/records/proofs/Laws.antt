@@ -1,2 +1,3 @@
--- Laws of outputs that records are decoded into.
+-- Laws of the definitions in specs/, and of outputs that records are decoded into.
+pub mod Stretch
 pub mod Filled

@@ -1,8 +1,11 @@
 // Reads of one record of the variable `i`, into an output from its element 0 on; `s` starts at the file's position `start`. Each answers 0, or
 // the number of the refusal with nothing written. The last two keep every bit of floats and doubles, a NaN's own too.
-ghost use mathlib.Core.Path.{_≡_};
-ghost use Rattle.decode.specs.Values.{byte, short, int, float, double, number};
-ghost use Rattle.reads.specs.Values.{numberOf, outputOf, recordRead};
+ghost use Rattle.decode.specs.Decoded.{byte, short, int, float, double, raw};
+ghost use Rattle.cdf.specs.Step.{Leaves};
+ghost use Rattle.reads.specs.Reads.{recordRead};
+use crate::stretch::Stretch;
+use crate::stretch::Stretched;
+use crate::stretch::record_of;
 use decode::strided::records_f32;
 use decode::strided::records_f64;
 use decode::strided::records_i8;
@@ -17,12 +20,8 @@ use items::types::DataType;
 // The answer number of a read that has filled its output.
 const ACCEPTED: u8 = 0;
 
-use reads::place::Stretch;
-use reads::place::Stretched;
-use reads::place::record_of;
-
 pub fn read_record_i8(t: Tables, s: &[u8], start: u64, i: usize, r: u64, out: &mut [i8]) -> u8
-    ensures { λ k. ⌜ (k ≡ numberOf (recordRead byte 1 t (now (s .entry)) start i r (now (out .entry)))) × (now (out .exit) ≡ outputOf (now (out .entry)) (recordRead byte 1 t (now (s .entry)) start i r (now (out .entry)))) ⌝ }
+    ensures { λ k. ⌜ Leaves (now (out .entry)) (recordRead byte 1 t (now (s .entry)) start i r (now (out .entry))) k (now (out .exit)) ⌝ }
 {
     match record_of(DataType::CODE_I8, t, s.len(), start, i, r, out.len()) {
         Stretched::Refused(k) => k,
@@ -35,7 +34,7 @@ pub fn read_record_i8(t: Tables, s: &[u8], start: u64, i: usize, r: u64, out: &m
 }
 
 pub fn read_record_u8(t: Tables, s: &[u8], start: u64, i: usize, r: u64, out: &mut [u8]) -> u8
-    ensures { λ k. ⌜ (k ≡ numberOf (recordRead number 2 t (now (s .entry)) start i r (now (out .entry)))) × (now (out .exit) ≡ outputOf (now (out .entry)) (recordRead number 2 t (now (s .entry)) start i r (now (out .entry)))) ⌝ }
+    ensures { λ k. ⌜ Leaves (now (out .entry)) (recordRead raw 2 t (now (s .entry)) start i r (now (out .entry))) k (now (out .exit)) ⌝ }
 {
     match record_of(DataType::CODE_U8, t, s.len(), start, i, r, out.len()) {
         Stretched::Refused(k) => k,
@@ -48,7 +47,7 @@ pub fn read_record_u8(t: Tables, s: &[u8], start: u64, i: usize, r: u64, out: &m
 }
 
 pub fn read_record_i16(t: Tables, s: &[u8], start: u64, i: usize, r: u64, out: &mut [i16]) -> u8
-    ensures { λ k. ⌜ (k ≡ numberOf (recordRead short 3 t (now (s .entry)) start i r (now (out .entry)))) × (now (out .exit) ≡ outputOf (now (out .entry)) (recordRead short 3 t (now (s .entry)) start i r (now (out .entry)))) ⌝ }
+    ensures { λ k. ⌜ Leaves (now (out .entry)) (recordRead short 3 t (now (s .entry)) start i r (now (out .entry))) k (now (out .exit)) ⌝ }
 {
     match record_of(DataType::CODE_I16, t, s.len(), start, i, r, out.len()) {
         Stretched::Refused(k) => k,
@@ -61,7 +60,7 @@ pub fn read_record_i16(t: Tables, s: &[u8], start: u64, i: usize, r: u64, out: &
 }
 
 pub fn read_record_i32(t: Tables, s: &[u8], start: u64, i: usize, r: u64, out: &mut [i32]) -> u8
-    ensures { λ k. ⌜ (k ≡ numberOf (recordRead int 4 t (now (s .entry)) start i r (now (out .entry)))) × (now (out .exit) ≡ outputOf (now (out .entry)) (recordRead int 4 t (now (s .entry)) start i r (now (out .entry)))) ⌝ }
+    ensures { λ k. ⌜ Leaves (now (out .entry)) (recordRead int 4 t (now (s .entry)) start i r (now (out .entry))) k (now (out .exit)) ⌝ }
 {
     match record_of(DataType::CODE_I32, t, s.len(), start, i, r, out.len()) {
         Stretched::Refused(k) => k,
@@ -74,7 +73,7 @@ pub fn read_record_i32(t: Tables, s: &[u8], start: u64, i: usize, r: u64, out: &
 }
 
 pub fn read_record_f32(t: Tables, s: &[u8], start: u64, i: usize, r: u64, out: &mut [f32]) -> u8
-    ensures { λ k. ⌜ (k ≡ numberOf (recordRead float 5 t (now (s .entry)) start i r (now (out .entry)))) × (now (out .exit) ≡ outputOf (now (out .entry)) (recordRead float 5 t (now (s .entry)) start i r (now (out .entry)))) ⌝ }
+    ensures { λ k. ⌜ Leaves (now (out .entry)) (recordRead float 5 t (now (s .entry)) start i r (now (out .entry))) k (now (out .exit)) ⌝ }
 {
     match record_of(DataType::CODE_F32, t, s.len(), start, i, r, out.len()) {
         Stretched::Refused(k) => k,
@@ -87,7 +86,7 @@ pub fn read_record_f32(t: Tables, s: &[u8], start: u64, i: usize, r: u64, out: &
 }
 
 pub fn read_record_f64(t: Tables, s: &[u8], start: u64, i: usize, r: u64, out: &mut [f64]) -> u8
-    ensures { λ k. ⌜ (k ≡ numberOf (recordRead double 6 t (now (s .entry)) start i r (now (out .entry)))) × (now (out .exit) ≡ outputOf (now (out .entry)) (recordRead double 6 t (now (s .entry)) start i r (now (out .entry)))) ⌝ }
+    ensures { λ k. ⌜ Leaves (now (out .entry)) (recordRead double 6 t (now (s .entry)) start i r (now (out .entry))) k (now (out .exit)) ⌝ }
 {
     match record_of(DataType::CODE_F64, t, s.len(), start, i, r, out.len()) {
         Stretched::Refused(k) => k,
@@ -107,7 +106,7 @@ pub fn read_record_f32_bits(
     r: u64,
     out: &mut [u32],
 ) -> u8
-    ensures { λ k. ⌜ (k ≡ numberOf (recordRead number 5 t (now (s .entry)) start i r (now (out .entry)))) × (now (out .exit) ≡ outputOf (now (out .entry)) (recordRead number 5 t (now (s .entry)) start i r (now (out .entry)))) ⌝ }
+    ensures { λ k. ⌜ Leaves (now (out .entry)) (recordRead raw 5 t (now (s .entry)) start i r (now (out .entry))) k (now (out .exit)) ⌝ }
 {
     match record_of(DataType::CODE_F32, t, s.len(), start, i, r, out.len()) {
         Stretched::Refused(k) => k,
@@ -127,7 +126,7 @@ pub fn read_record_f64_bits(
     r: u64,
     out: &mut [u64],
 ) -> u8
-    ensures { λ k. ⌜ (k ≡ numberOf (recordRead number 6 t (now (s .entry)) start i r (now (out .entry)))) × (now (out .exit) ≡ outputOf (now (out .entry)) (recordRead number 6 t (now (s .entry)) start i r (now (out .entry)))) ⌝ }
+    ensures { λ k. ⌜ Leaves (now (out .entry)) (recordRead raw 6 t (now (s .entry)) start i r (now (out .entry))) k (now (out .exit)) ⌝ }
 {
     match record_of(DataType::CODE_F64, t, s.len(), start, i, r, out.len()) {
         Stretched::Refused(k) => k,

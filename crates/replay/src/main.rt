@@ -1,6 +1,7 @@
 // Runs the header reader, the reads and the lookups on recorded files. A line of standard input is a letter, a
 // space and what the letter takes: the bytes of a file in hexadecimal, or numbers in decimal.
-//     f HEX                      a file: number, place, record count and end of its header
+//     f HEX                      a file: all that the header reader answers, where both versions are admitted
+//     h SET LENGTH SIZE          the same for the file's first bytes, a file of that size, and the versions in the set: 1, 2 or both (3)
 //     w FROM TO                  the window is these bytes of the file, until the next file
 //     s START                    the reads are told that the window starts there, until the next file or window
 //     e VAR RECORD ELEMENT       an element of whatever type
@@ -13,22 +14,21 @@
 // what is expected.
 ghost use Prim.Native.Nat.{_≤_};
 ghost use lib.ListN.{length};
-ghost use Rattle.hexlines.specs.Cut.{kept};
+ghost use Rattle.hexlines.specs.Inner.Cut.{kept};
 use crate::element::show_element;
 use crate::element::show_typed;
 use crate::names::show_found;
 use crate::names::show_name;
 use crate::output::Ask;
 use crate::output::show_output;
+use crate::shown::show_header;
 use crate::tables::changed;
 use crate::text::least;
 use crate::text::numbers;
-use crate::text::show_last;
-use crate::text::show_number;
-use crate::text::wide;
 use cdf::version::Admitted;
 use grammar::tables::Tables;
 use grammar::tables::blank;
+use header::reader::Header;
 use header::reader::read_header;
 use hexlines::cut::cut_line;
 use hexlines::line::Line;
@@ -37,6 +37,7 @@ use hexlines::line::line_answer;
 mod element;
 mod names;
 mod output;
+mod shown;
 mod tables;
 mod text;
 
@@ -49,18 +50,21 @@ struct Held {
     start: u64,
 }
 
+// The header of a file of that size which starts with `prefix`.
+fn headed(set: u64, prefix: &[u8], size: u64) -> Header {
+    let admitted = Admitted {
+        classic: set % 2 == 1,
+        offset64: set / 2 % 2 == 1,
+    };
+    let h = read_header(prefix, size, admitted);
+    show_header(h);
+    h
+}
+
 // The header of a file, and the window that holds all of it.
 fn opened(bytes: &[u8]) -> Held {
-    let admitted = Admitted {
-        classic: true,
-        offset64: true,
-    };
-    let h = read_header(bytes, bytes.len() as u64, admitted);
+    let h = headed(3, bytes, bytes.len() as u64);
     let tables = h.tables;
-    show_number(wide(h.number));
-    show_number(h.place as u64);
-    show_number(tables.count);
-    show_last(h.end as u64);
     let size = bytes.len();
     Held {
         tables,
@@ -136,6 +140,11 @@ fn asked(kind: u8, a: [u64; 4], file: &[u8], held: Held) -> Held {
             to: held.to,
             start: a[0],
         },
+        b'h' => {
+            let length = least(a[1] as usize, least(held.size, file.len()));
+            headed(a[0], &file[0..length], a[2]);
+            held
+        }
         b'm' | b'q' => {
             let size = least(held.size, file.len());
             look_up(kind, a, tables, &file[0..size]);

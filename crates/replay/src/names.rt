@@ -3,10 +3,10 @@ use crate::output::show_u8;
 use crate::text::show_last;
 use crate::text::wide;
 use grammar::tables::Tables;
-use reads::lookup::Found;
-use reads::lookup::find_var;
-use reads::lookup::var_name;
-use reads::lookup::var_name_answer;
+use lookup::names::Found;
+use lookup::names::find_var;
+use lookup::names::var_name;
+use lookup::names::var_name_answer;
 
 // The answer's number, then the bytes of the name of the variable `i`.
 pub fn show_name(t: Tables, s: &[u8], i: usize) {

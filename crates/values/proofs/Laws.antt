@@ -1,2 +1,2 @@
 -- Laws of what the exported reads of values answer.
-pub mod Values
+pub mod OfFile

@@ -1,2 +1,2 @@
 -- What the exported reads of values answer.
-pub mod Values
+pub mod OfFile

@@ -2,10 +2,10 @@
 // of the read's, with nothing written. A caller's floats have the layout of their bits: the last two keep a NaN's own.
 ghost use mathlib.Core.Path.{_≡_};
 ghost use Rattle.cdf.specs.Magic.{bothVersions};
-ghost use Rattle.decode.specs.Values.{byte, short, int, float, double, number};
-ghost use Rattle.reads.specs.Values.{numberOf, outputOf};
-ghost use Rattle.reads.specs.Element.{numberIn};
-ghost use Rattle.values.specs.Values.{wholeOfFile, elementOfFile};
+ghost use Rattle.decode.specs.Decoded.{byte, short, int, float, double, raw};
+ghost use Rattle.cdf.specs.Step.{numberOf, Leaves};
+ghost use Rattle.reads.specs.Element.{ofValue};
+ghost use Rattle.values.specs.OfFile.{wholeOfFile, elementOfFile};
 use cdf::version::Admitted;
 use header::reader::read_header;
 use reads::element::Value;
@@ -19,7 +19,7 @@ use records::whole::read_whole_i16;
 use records::whole::read_whole_i32;
 use records::whole::read_whole_u8;
 
-fn both() -> Admitted
+pub(crate) fn both() -> Admitted
     ensures { λ r. ⌜ r ≡ bothVersions ⌝ }
 {
     Admitted {
@@ -29,7 +29,7 @@ fn both() -> Admitted
 }
 
 fn number_in(v: Value) -> u8
-    ensures { λ r. ⌜ r ≡ numberIn v ⌝ }
+    ensures { λ r. ⌜ r ≡ numberOf (ofValue v) ⌝ }
 {
     match v {
         Value::Refused(k) => k,
@@ -64,7 +64,7 @@ pub extern "C" fn fungal_element_answer(file: &[u8], i: usize, r: u64, e: u64, m
 
 #[no_mangle]
 pub extern "C" fn fungal_read_var_i8(file: &[u8], i: usize, out: &mut [i8]) -> u8
-    ensures { λ k. ⌜ (k ≡ numberOf (wholeOfFile byte 1 (now (file .entry)) i (now (out .entry)))) × (now (out .exit) ≡ outputOf (now (out .entry)) (wholeOfFile byte 1 (now (file .entry)) i (now (out .entry)))) ⌝ }
+    ensures { λ k. ⌜ Leaves (now (out .entry)) (wholeOfFile byte 1 (now (file .entry)) i (now (out .entry))) k (now (out .exit)) ⌝ }
 {
     let h = read_header(file, file.len() as u64, both());
     if h.number != 0 {
@@ -75,7 +75,7 @@ pub extern "C" fn fungal_read_var_i8(file: &[u8], i: usize, out: &mut [i8]) -> u
 
 #[no_mangle]
 pub extern "C" fn fungal_read_var_u8(file: &[u8], i: usize, out: &mut [u8]) -> u8
-    ensures { λ k. ⌜ (k ≡ numberOf (wholeOfFile number 2 (now (file .entry)) i (now (out .entry)))) × (now (out .exit) ≡ outputOf (now (out .entry)) (wholeOfFile number 2 (now (file .entry)) i (now (out .entry)))) ⌝ }
+    ensures { λ k. ⌜ Leaves (now (out .entry)) (wholeOfFile raw 2 (now (file .entry)) i (now (out .entry))) k (now (out .exit)) ⌝ }
 {
     let h = read_header(file, file.len() as u64, both());
     if h.number != 0 {
@@ -86,7 +86,7 @@ pub extern "C" fn fungal_read_var_u8(file: &[u8], i: usize, out: &mut [u8]) -> u
 
 #[no_mangle]
 pub extern "C" fn fungal_read_var_i16(file: &[u8], i: usize, out: &mut [i16]) -> u8
-    ensures { λ k. ⌜ (k ≡ numberOf (wholeOfFile short 3 (now (file .entry)) i (now (out .entry)))) × (now (out .exit) ≡ outputOf (now (out .entry)) (wholeOfFile short 3 (now (file .entry)) i (now (out .entry)))) ⌝ }
+    ensures { λ k. ⌜ Leaves (now (out .entry)) (wholeOfFile short 3 (now (file .entry)) i (now (out .entry))) k (now (out .exit)) ⌝ }
 {
     let h = read_header(file, file.len() as u64, both());
     if h.number != 0 {
@@ -97,7 +97,7 @@ pub extern "C" fn fungal_read_var_i16(file: &[u8], i: usize, out: &mut [i16]) ->
 
 #[no_mangle]
 pub extern "C" fn fungal_read_var_i32(file: &[u8], i: usize, out: &mut [i32]) -> u8
-    ensures { λ k. ⌜ (k ≡ numberOf (wholeOfFile int 4 (now (file .entry)) i (now (out .entry)))) × (now (out .exit) ≡ outputOf (now (out .entry)) (wholeOfFile int 4 (now (file .entry)) i (now (out .entry)))) ⌝ }
+    ensures { λ k. ⌜ Leaves (now (out .entry)) (wholeOfFile int 4 (now (file .entry)) i (now (out .entry))) k (now (out .exit)) ⌝ }
 {
     let h = read_header(file, file.len() as u64, both());
     if h.number != 0 {
@@ -108,7 +108,7 @@ pub extern "C" fn fungal_read_var_i32(file: &[u8], i: usize, out: &mut [i32]) ->
 
 #[no_mangle]
 pub extern "C" fn fungal_read_var_f32(file: &[u8], i: usize, out: &mut [f32]) -> u8
-    ensures { λ k. ⌜ (k ≡ numberOf (wholeOfFile float 5 (now (file .entry)) i (now (out .entry)))) × (now (out .exit) ≡ outputOf (now (out .entry)) (wholeOfFile float 5 (now (file .entry)) i (now (out .entry)))) ⌝ }
+    ensures { λ k. ⌜ Leaves (now (out .entry)) (wholeOfFile float 5 (now (file .entry)) i (now (out .entry))) k (now (out .exit)) ⌝ }
 {
     let h = read_header(file, file.len() as u64, both());
     if h.number != 0 {
@@ -119,7 +119,7 @@ pub extern "C" fn fungal_read_var_f32(file: &[u8], i: usize, out: &mut [f32]) ->
 
 #[no_mangle]
 pub extern "C" fn fungal_read_var_f64(file: &[u8], i: usize, out: &mut [f64]) -> u8
-    ensures { λ k. ⌜ (k ≡ numberOf (wholeOfFile double 6 (now (file .entry)) i (now (out .entry)))) × (now (out .exit) ≡ outputOf (now (out .entry)) (wholeOfFile double 6 (now (file .entry)) i (now (out .entry)))) ⌝ }
+    ensures { λ k. ⌜ Leaves (now (out .entry)) (wholeOfFile double 6 (now (file .entry)) i (now (out .entry))) k (now (out .exit)) ⌝ }
 {
     let h = read_header(file, file.len() as u64, both());
     if h.number != 0 {
@@ -130,7 +130,7 @@ pub extern "C" fn fungal_read_var_f64(file: &[u8], i: usize, out: &mut [f64]) ->
 
 #[no_mangle]
 pub extern "C" fn fungal_read_var_f32_bits(file: &[u8], i: usize, out: &mut [u32]) -> u8
-    ensures { λ k. ⌜ (k ≡ numberOf (wholeOfFile number 5 (now (file .entry)) i (now (out .entry)))) × (now (out .exit) ≡ outputOf (now (out .entry)) (wholeOfFile number 5 (now (file .entry)) i (now (out .entry)))) ⌝ }
+    ensures { λ k. ⌜ Leaves (now (out .entry)) (wholeOfFile raw 5 (now (file .entry)) i (now (out .entry))) k (now (out .exit)) ⌝ }
 {
     let h = read_header(file, file.len() as u64, both());
     if h.number != 0 {
@@ -141,7 +141,7 @@ pub extern "C" fn fungal_read_var_f32_bits(file: &[u8], i: usize, out: &mut [u32
 
 #[no_mangle]
 pub extern "C" fn fungal_read_var_f64_bits(file: &[u8], i: usize, out: &mut [u64]) -> u8
-    ensures { λ k. ⌜ (k ≡ numberOf (wholeOfFile number 6 (now (file .entry)) i (now (out .entry)))) × (now (out .exit) ≡ outputOf (now (out .entry)) (wholeOfFile number 6 (now (file .entry)) i (now (out .entry)))) ⌝ }
+    ensures { λ k. ⌜ Leaves (now (out .entry)) (wholeOfFile raw 6 (now (file .entry)) i (now (out .entry))) k (now (out .exit)) ⌝ }
 {
     let h = read_header(file, file.len() as u64, both());
     if h.number != 0 {

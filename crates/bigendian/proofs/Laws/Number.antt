@@ -10,7 +10,7 @@ use lib.ListN.{getD, take, drop}
 use lib.Seq.{getD-take, getD-drop}
 use borrow.Author.Tests.{lt-ltb, le-ltb}
 use Rattle.bigendian.specs.Number.{be, half, extended}
-use Rattle.bigendian.specs.Turn.{little, turned}
+use Rattle.bigendian.specs.Inner.Turn.{little, turned}
 
 be-4 : (s : List ℕ) (p : ℕ) → be 4 s p ≡ ((getD s p 0 * 256 + getD s (p + 1) 0) * 256 + getD s (p + 2) 0) * 256 + getD s (p + 3) 0
 unfolding be

@@ -11,7 +11,7 @@ use lib.Dec.{ltb, leb, eqb}
 use borrow.Author.Tests.{lt-ltb, le-ltb, lt-leb, le-leb, leb-true, ltb-true, eq-eqb, ne-eqb, eqb-true}
 use Rattle.cdf.specs.Step.{Step, got, stop, test, unfinished}
 use Rattle.cdf.specs.Below.{allBelow}
-use Rattle.cdf.specs.Magic.{begins, cdf, magic, admits, version}
+use Rattle.cdf.specs.Magic.{begins, cdf, magic, admits, versionByte}
 use Rattle.cdf.specs.declared.version.Admitted.{Admitted}
 use Rattle.cdf.proofs.Laws.Step.{Ends, ended, stopped, test-ends, unfinished-ends, by-true, by-false, is-unfinished}
 use Rattle.cdf.proofs.Laws.Below.{all-hold, one-fails, holds-at}
@@ -85,30 +85,30 @@ module _ (a : Admitted) where
   admits-none v n m = rw (ne-eqb v 1 n, ne-eqb v 2 m)
 
   module _ (s : List ℕ) (size at : ℕ) where
-    pub version-got : {v : ℕ} → at < length s → v ≡ getD s at 0 → true ≡ admits a v → got v (at + 1) ≡ version a s size at
-    unfolding version
-    version-got h e b =
-        by-true _ (lt-ltb at (length s) h) (by-true _ (ap (admits a) (sym e) ∙ sym b) (ap (λ (v : ℕ). got v (at + 1)) e))
+    pub versionByte-got : {v : ℕ} → at < length s → v ≡ getD s at 0 → true ≡ admits a v → got v (at + 1) ≡ versionByte a s size at
+    unfolding versionByte
+    versionByte-got h e b =
+        by-true _ (le-leb (at + 1) (length s) (omega arith)) (by-true _ (ap (admits a) (sym e) ∙ sym b) (ap (λ (v : ℕ). got v (at + 1)) e))
 
-    pub version-short : {r : ℕ} → at ≡ length s → r ≡ cond (ltb (length s) size) 1 2 → stop r (length s) ≡ version a s size at
-    unfolding version
-    version-short h e = by-false _ (le-ltb at (length s) (omega arith)) (is-unfinished s size e)
+    pub versionByte-short : {r : ℕ} → at ≡ length s → r ≡ cond (ltb (length s) size) 1 2 → stop r (length s) ≡ versionByte a s size at
+    unfolding versionByte
+    versionByte-short h e = by-false _ (lt-leb (at + 1) (length s) (omega arith)) (is-unfinished s size e)
 
-    pub version-bad : {v : ℕ} → at < length s → v ≡ getD s at 0 → false ≡ admits a v → stop 4 at ≡ version a s size at
-    unfolding version
-    version-bad h e b = by-true _ (lt-ltb at (length s) h) (by-false _ (ap (admits a) (sym e) ∙ sym b) refl)
+    pub versionByte-bad : {v : ℕ} → at < length s → v ≡ getD s at 0 → false ≡ admits a v → stop 4 at ≡ versionByte a s size at
+    unfolding versionByte
+    versionByte-bad h e b = by-true _ (le-leb (at + 1) (length s) (omega arith)) (by-false _ (ap (admits a) (sym e) ∙ sym b) refl)
 
     -- a version that is taken is the byte
-    pub version-is : {v n : ℕ} → got v n ≡ version a s size at → v ≡ getD s at 0
-    unfolding version test unfinished
-    version-is {v} {n} e = taken (ltb at (length s)) (admits a (getD s at 0)) e
+    pub versionByte-is : {v n : ℕ} → got v n ≡ versionByte a s size at → v ≡ getD s at 0
+    unfolding versionByte test unfinished
+    versionByte-is {v} {n} e = taken (leb (at + 1) (length s)) (admits a (getD s at 0)) e
       where
         taken : (t u : Bool) → got v n ≡ test t (test u (got (getD s at 0) (at + 1)) (stop 4 at)) (unfinished s size) → v ≡ getD s at 0
         taken true true f = cc
         taken true false f = cc
         taken false u f = cc
 
-    pub version-ends : Ends (length s) (version a s size at)
-    unfolding version
-    version-ends =
-        test-ends _ _ _ (λ h. test-ends _ _ _ (λ _. ended _ _ (let l = ltb-true at (length s) h in omega arith)) (λ _. stopped _ _)) (λ _. unfinished-ends s size)
+    pub versionByte-ends : Ends (length s) (versionByte a s size at)
+    unfolding versionByte
+    versionByte-ends =
+        test-ends _ _ _ (λ h. test-ends _ _ _ (λ _. ended _ _ (leb-true _ _ h)) (λ _. stopped _ _)) (λ _. unfinished-ends s size)

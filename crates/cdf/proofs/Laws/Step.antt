@@ -1,12 +1,13 @@
 -- Laws of steps: one after the other, checks, runs, and where a step ends.
 use Prim.Native.Nat.{ℕ, zero, suc, _+_, _-_, _≤_, _<_}
+use native.Mathlib.Nat.{sub-zero}
 use native.Mathlib.Omega.{arith}
 use mathlib.Core.Path.{_≡_, refl, sym, subst, ap, _∙_}
 use mathlib.Core.Bool.{Bool, true, false, cond}
-use mathlib.Core.List.{List}
-use lib.ListN.{length}
+use mathlib.Core.List.{List, [], _∷_, _++_}
+use lib.ListN.{length, length-append}
 use lib.Dec.{ltb}
-use Rattle.cdf.specs.Step.{Step, got, stop, bind, test, many, unfinished}
+use Rattle.cdf.specs.Step.{Step, got, stop, bind, test, unless, need, into, items, unfinished, numberOf, givenOr, Leaves}
 
 -- a step that is taken ends at a place up to b
 pub data Ends {A : Type 0} (b : ℕ) : Step A → Type 0 where
@@ -23,10 +24,10 @@ unfolding test
 test-ends true x y h k = h refl
 test-ends false x y h k = k refl
 
-pub many-ends : {S : Type 0} {b : ℕ} (f : S → ℕ → Step S) → ((st : S) (at : ℕ) → at ≤ b → Ends b (f st at)) → (n : ℕ) (st : S) (at : ℕ) → at ≤ b → Ends b (many f n st at)
-unfolding many
-many-ends f e zero st at h = ended st at h
-many-ends f e (suc n) st at h = bind-ends _ _ (e st at h) (λ st′ at′ h′. many-ends f e n st′ at′ h′)
+pub items-ends : {A : Type 0} {b : ℕ} (f : List A → ℕ → Step A) → ((xs : List A) (at : ℕ) → at ≤ b → Ends b (f xs at)) → (n : ℕ) (xs : List A) (at : ℕ) → at ≤ b → Ends b (items f n xs at)
+unfolding items
+items-ends f e zero xs at h = ended xs at h
+items-ends f e (suc n) xs at h = bind-ends _ _ (e xs at h) (λ x q l. items-ends f e n (xs ++ (x ∷ [])) q l)
 
 pub unfinished-ends : {A : Type 0} {b : ℕ} (s : List ℕ) (size : ℕ) → Ends b (unfinished {A = A} s size)
 unfolding unfinished
@@ -77,28 +78,112 @@ test-came {t = false} k p e = (cc, cc)
 pub got-same : {A : Type 0} {a b : A} {n m : ℕ} → got a n ≡ got b m → a ≡ b
 got-same e = cc
 
--- a run of steps from the i-th of n on: one more, a refusal, the end
-module _ {S : Type 0} (f : S → ℕ → Step S) (n i : ℕ) (st : S) (at : ℕ) where
-  left : i < n → n - i ≡ suc (n - (i + 1))
-  left h = omega arith
+-- a step seen through a function
+pub into-after : {A B C : Type 0} {a : A} {n : ℕ} {m : Step A} (g : B → C) (f : A → ℕ → Step B) (x : Step C) → got a n ≡ m → x ≡ into g (f a n) → x ≡ into g (bind m f)
+unfolding bind
+into-after g f x e h = subst (λ m. x ≡ into g (bind m f)) e h
 
-  pub many-more : {st′ : S} {at′ : ℕ} → i < n → got st′ at′ ≡ f st at → many f (n - i) st at ≡ many f (n - (i + 1)) st′ at′
-  unfolding many
-  many-more h e = ap (λ (k : ℕ). many f k st at) (left h) ∙ sym (by-got (many f (n - (i + 1))) _ e refl)
+pub into-last : {A B C : Type 0} (g : B → C) (h : A → B) (m : Step A) → into (λ a. g (h a)) m ≡ into g (bind m (λ a n. got (h a) n))
+unfolding into bind
+into-last g h (got a n) = refl
+into-last g h (stop k p) = refl
 
-  pub many-stop : {k p : ℕ} → i < n → stop k p ≡ f st at → stop k p ≡ many f (n - i) st at
-  unfolding many
-  many-stop h e = by-stop (many f (n - (i + 1))) e ∙ sym (ap (λ (k : ℕ). many f k st at) (left h))
+pub into-got : {A B : Type 0} {a : A} {b : B} {n : ℕ} {m : Step A} (g : A → B) → b ≡ g a → got a n ≡ m → got b n ≡ into g m
+unfolding into
+into-got {B = B} {n = n} g h e = ap (λ (b : B). got b n) h ∙ ap (into g) e
 
-  pub many-done : n ≤ i → got st at ≡ many f (n - i) st at
-  unfolding many
-  many-done h = let z : n - i ≡ 0 = omega arith in sym (ap (λ (k : ℕ). many f k st at) z)
+pub into-stop : {A B : Type 0} {k p : ℕ} {m : Step A} (g : A → B) → stop k p ≡ m → stop k p ≡ into g m
+unfolding into
+into-stop g e = ap (into g) e
+
+pub into-stopped : {A B : Type 0} {k p : ℕ} (g : A → B) (m : Step A) → stop k p ≡ into g m → stop k p ≡ m
+unfolding into
+into-stopped g (got a n) e = cc
+into-stopped g (stop i q) e = cc
+
+pub into-ends : {A B : Type 0} {b : ℕ} (g : A → B) (m : Step A) → Ends b m → Ends b (into g m)
+unfolding into
+into-ends g (got a n) (ended _ _ h) = ended (g a) n h
+into-ends g (stop i p) (stopped _ _) = stopped i p
+
+pub into-came : {A B : Type 0} {b : B} {n : ℕ} (g : A → B) (m : Step A) → got b n ≡ into g m → (a : A) × (got a n ≡ m) × (b ≡ g a)
+unfolding into
+into-came g (got a p) e = (a, cc, cc)
+into-came g (stop i p) e = let z : _≡_ {A = ℕ} 0 1 = cc in absurd (one-not z)
+  where
+    one-not : _≡_ {A = ℕ} 0 1 → ⊥
+    one-not z = omega arith
+
+-- the first i of n items, those of a list, were read from one place to another
+pub record Read {A : Type 0} (f : List A → ℕ → Step A) (n start i : ℕ) (xs : List A) (at : ℕ) : Type 0 where
+  pub rest : items f n [] start ≡ items f (n - i) xs at
+
+-- none yet; one more; a refusal; the end
+module _ {A : Type 0} {f : List A → ℕ → Step A} {n start : ℕ} where
+  pub read-none : Read f n start 0 [] start
+  read-none = record { rest = rw sub-zero }
+
+  module _ {i : ℕ} {xs : List A} {at : ℕ} (so : Read f n start i xs at) where
+    left : i < n → n - i ≡ suc (n - (i + 1))
+    left h = omega arith
+
+    pub read-more : {x : A} {q : ℕ} → i < n → got x q ≡ f xs at → Read f n start (i + 1) (xs ++ (x ∷ [])) q
+    unfolding items
+    read-more h e = record { rest = so .rest ∙ ap (λ (k : ℕ). items f k xs at) (left h) ∙ sym (by-got (λ y r. items f (n - (i + 1)) (xs ++ (y ∷ [])) r) _ e refl) }
+
+    pub read-stop : {k p : ℕ} → i < n → stop k p ≡ f xs at → stop k p ≡ items f n [] start
+    unfolding items
+    read-stop h e = by-stop (λ y r. items f (n - (i + 1)) (xs ++ (y ∷ [])) r) e ∙ sym (so .rest ∙ ap (λ (k : ℕ). items f k xs at) (left h))
+
+    pub read-done : n ≤ i → got xs at ≡ items f n [] start
+    unfolding items
+    read-done h = let z : n - i ≡ 0 = omega arith in sym (so .rest ∙ ap (λ (k : ℕ). items f k xs at) z)
+
+-- items that were read: how many they are, and what each one keeps
+pub items-length : {A : Type 0} {ys : List A} {e : ℕ} (f : List A → ℕ → Step A) (n : ℕ) (xs : List A) (at : ℕ) → got ys e ≡ items f n xs at → length ys ≡ length xs + n
+unfolding items
+items-length f zero xs at e = let h = ap length (got-same e) in omega arith
+items-length {ys = ys} f (suc n) xs at e =
+    bind-came _ _ e (length ys ≡ length xs + suc n) (λ x q _ g. let h = items-length f n (xs ++ (x ∷ [])) q g in let l = length-append xs (x ∷ []) in omega arith)
+
+pub items-keep : {A : Type 0} {ys : List A} {e : ℕ} (P : List A → Type 0) (f : List A → ℕ → Step A)
+    → ((xs : List A) (x : A) (at q : ℕ) → P xs → got x q ≡ f xs at → P (xs ++ (x ∷ []))) → (n : ℕ) (xs : List A) (at : ℕ) → P xs → got ys e ≡ items f n xs at → P ys
+unfolding items
+items-keep P f h zero xs at k e = subst P (sym (got-same e)) k
+items-keep {ys = ys} P f h (suc n) xs at k e = bind-came _ _ e (P ys) (λ x q c g. items-keep P f h n (xs ++ (x ∷ [])) q (h xs x at q k c) g)
 
 -- a step after a check, after a step, and after one of the same answer; a check of the same outcome
 pub bind-test : {A B : Type 0} (b : Bool) (x y : Step A) (f : A → ℕ → Step B) → bind (test b x y) f ≡ test b (bind x f) (bind y f)
 unfolding test
 bind-test true x y f = refl
 bind-test false x y f = refl
+
+-- a refusal gives nothing
+pub refused-given : {A : Type 0} (d : A) (y : Step A) → (numberOf y ≡ 0 → ⊥) → givenOr d y ≡ d
+refused-given d (got x n) h = absurd (h refl)
+refused-given d (stop k p) h = refl
+
+-- what a refusal leaves, and what an answer does
+pub leaves-stop : {A : Type 0} {k p : ℕ} {y : Step (List A)} (out : List A) → stop k p ≡ y → Leaves out y k out
+leaves-stop out e = (ap numberOf e, ap (givenOr out) e)
+
+pub leaves-got : {A : Type 0} {n : ℕ} {new : List A} {y : Step (List A)} (out : List A) → got new n ≡ y → Leaves out y 0 new
+leaves-got out e = (ap numberOf e, ap (givenOr out) e)
+
+-- a step after a rule, and after bytes at hand
+pub bind-need : {A B : Type 0} (b : Bool) (k p : ℕ) (x : Step A) (f : A → ℕ → Step B) → bind (need b k p x) f ≡ need b k p (bind x f)
+unfolding test bind
+bind-need true k p x f = refl
+bind-need false k p x f = refl
+
+pub bind-hand : {A B : Type 0} (b : Bool) (s : List ℕ) (size : ℕ) (x : Step A) (f : A → ℕ → Step B) → bind (unless b (unfinished s size) x) f ≡ unless b (unfinished s size) (bind x f)
+unfolding test bind unfinished
+bind-hand true s size x f = refl
+bind-hand false s size x f = refl
+
+pub bind-got : {A B : Type 0} (a : A) (n : ℕ) (f : A → ℕ → Step B) → bind (got a n) f ≡ f a n
+unfolding bind
+bind-got a n f = refl
 
 pub bind-bind : {A B C : Type 0} (m : Step A) (f : A → ℕ → Step B) (g : B → ℕ → Step C) → bind (bind m f) g ≡ bind m (λ a n. bind (f a n) g)
 unfolding bind

@@ -9,7 +9,7 @@ use lib.Dec.{ltb, leb}
 use borrow.Author.Tests.{lt-ltb, le-ltb, lt-leb, le-leb, leb-true, ltb-true, eq-eqb, ne-eqb}
 use Rattle.cdf.specs.Step.{Step, got, stop, bind, test, unfinished}
 use Rattle.bigendian.specs.Number.{be, half, extended}
-use Rattle.cdf.specs.Word.{word, nonNegative, openCount, count, offset}
+use Rattle.cdf.specs.Word.{word, nonNegative, openCount, nelems, signed}
 use Rattle.bigendian.proofs.Laws.Number.{extended-8}
 use Rattle.cdf.proofs.Laws.Step.{Ends, ended, stopped, bind-ends, test-ends, unfinished-ends, by-got, by-stop, by-true, by-false, is-unfinished, bind-came, test-came, got-same}
 
@@ -75,38 +75,38 @@ module _ (k : ℕ) (s : List ℕ) (size at : ℕ) where
   unfolding openCount
   openCount-ends = bind-ends _ _ word-ends (λ v n h. test-ends _ _ _ (λ _. ended _ _ h) (λ _. stopped _ _))
 
-  pub offset-stop : {r p : ℕ} → stop r p ≡ word k s size at → stop r p ≡ offset k s size at
-  unfolding offset
-  offset-stop e = by-stop _ e
+  pub signed-stop : {r p : ℕ} → stop r p ≡ word k s size at → stop r p ≡ signed k s size at
+  unfolding signed
+  signed-stop e = by-stop _ e
 
-  pub offset-got : {v x n : ℕ} → got v n ≡ word k s size at → x ≡ extended k v → got x n ≡ offset k s size at
-  unfolding offset
-  offset-got {n = n} e h = by-got _ _ e (ap (λ (x : ℕ). got x n) h)
+  pub signed-got : {v x n : ℕ} → got v n ≡ word k s size at → x ≡ extended k v → got x n ≡ signed k s size at
+  unfolding signed
+  signed-got {n = n} e h = by-got _ _ e (ap (λ (x : ℕ). got x n) h)
 
-  pub offset-ends : Ends (length s) (offset k s size at)
-  unfolding offset
-  offset-ends = bind-ends _ _ word-ends (λ v n h. ended _ _ h)
+  pub signed-ends : Ends (length s) (signed k s size at)
+  unfolding signed
+  signed-ends = bind-ends _ _ word-ends (λ v n h. ended _ _ h)
 
   module _ (capacity : ℕ) where
-    pub count-stop : {r p : ℕ} → stop r p ≡ nonNegative k s size at → stop r p ≡ count capacity k s size at
-    unfolding count
-    count-stop e = by-stop _ e
+    pub nelems-stop : {r p : ℕ} → stop r p ≡ nonNegative k s size at → stop r p ≡ nelems capacity k s size at
+    unfolding nelems
+    nelems-stop e = by-stop _ e
 
-    pub count-got : {v n : ℕ} → got v n ≡ nonNegative k s size at → v ≤ capacity → got v n ≡ count capacity k s size at
-    unfolding count
-    count-got e h = by-got _ _ e (by-true _ (le-leb _ _ h) refl)
+    pub nelems-got : {v n : ℕ} → got v n ≡ nonNegative k s size at → v ≤ capacity → got v n ≡ nelems capacity k s size at
+    unfolding nelems
+    nelems-got e h = by-got _ _ e (by-true _ (le-leb _ _ h) refl)
 
-    pub count-bad : {v n : ℕ} → got v n ≡ nonNegative k s size at → capacity < v → stop 10 at ≡ count capacity k s size at
-    unfolding count
-    count-bad e h = by-got _ _ e (by-false _ (lt-leb _ _ h) refl)
+    pub nelems-bad : {v n : ℕ} → got v n ≡ nonNegative k s size at → capacity < v → stop 10 at ≡ nelems capacity k s size at
+    unfolding nelems
+    nelems-bad e h = by-got _ _ e (by-false _ (lt-leb _ _ h) refl)
 
-    pub count-within : {v n : ℕ} → got v n ≡ count capacity k s size at → v ≤ capacity
-    unfolding count
-    count-within {v} e = bind-came _ _ e (v ≤ capacity) (λ a p _ f. let g = test-came _ _ f in let h = leb-true a capacity (g .0) in let i = got-same (g .1) in omega arith)
+    pub nelems-within : {v n : ℕ} → got v n ≡ nelems capacity k s size at → v ≤ capacity
+    unfolding nelems
+    nelems-within {v} e = bind-came _ _ e (v ≤ capacity) (λ a p _ f. let g = test-came _ _ f in let h = leb-true a capacity (g .0) in let i = got-same (g .1) in omega arith)
 
-    pub count-ends : Ends (length s) (count capacity k s size at)
-    unfolding count
-    count-ends = bind-ends _ _ nonNegative-ends (λ v n h. test-ends _ _ _ (λ _. ended _ _ h) (λ _. stopped _ _))
+    pub nelems-ends : Ends (length s) (nelems capacity k s size at)
+    unfolding nelems
+    nelems-ends = bind-ends _ _ nonNegative-ends (λ v n h. test-ends _ _ _ (λ _. ended _ _ h) (λ _. stopped _ _))
 
 kept : (m : Step ℕ) → m ≡ bind m (λ v n. got (extended 8 v) n)
 unfolding bind
@@ -114,6 +114,6 @@ kept (got v n) = ap (λ (x : ℕ). got x n) (extended-8 v)
 kept (stop i p) = refl
 
 -- eight bytes are the 64 bits themselves
-pub offset-8 : (s : List ℕ) (size at : ℕ) → word 8 s size at ≡ offset 8 s size at
-unfolding offset
-offset-8 s size at = kept (word 8 s size at)
+pub signed-8 : (s : List ℕ) (size at : ℕ) → word 8 s size at ≡ signed 8 s size at
+unfolding signed
+signed-8 s size at = kept (word 8 s size at)

@@ -4,8 +4,8 @@ use mathlib.Core.List.{List, _++_}
 use Prim.Native.Nat.{ℕ, _+_, _*_, _≤_, _<_}
 use native.Mathlib.Omega.{arith}
 use lib.ListN.{length, set, drop, length-set}
-use Rattle.decode.specs.Lists.{tab}
-use Rattle.decode.proofs.Laws.Lists.{tab-none, tab-more, tab-all}
+use Rattle.bigendian.specs.Lists.{tab}
+use Rattle.bigendian.proofs.Laws.Lists.{tab-none, tab-more, tab-all}
 
 pub record Filled {A : Type 0} (g : ℕ → A) (d₀ d : List A) (n : ℕ) : Type 0 where
   pub within : n ≤ length d₀

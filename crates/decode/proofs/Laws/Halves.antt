@@ -6,8 +6,8 @@ use native.Mathlib.Nat.{add-zero, zero-add, add-assoc}
 use native.Mathlib.Omega.{arith}
 use lib.ListN.{getD}
 use Rattle.bigendian.specs.Number.{be}
-use Rattle.bigendian.specs.Turn.{little}
-use Rattle.decode.specs.Halves.{swapped}
+use Rattle.bigendian.specs.Inner.Turn.{little}
+use Rattle.decode.specs.Inner.Halves.{swapped}
 
 pub be-2 : (s : List ℕ) (p : ℕ) → be 2 s p ≡ getD s p 0 * 256 + getD s (p + 1) 0
 unfolding be

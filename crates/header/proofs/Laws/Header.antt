@@ -1,20 +1,20 @@
 -- Laws of what the header reader answers.
 use Prim.Native.Nat.{ℕ, _≤_, _<_}
-use mathlib.Core.Path.{_≡_, refl, ap, sym, _∙_}
-use mathlib.Core.Bool.{Bool, true, false, _&&_, and-false}
+use mathlib.Core.Path.{_≡_, refl, ap, _∙_}
+use mathlib.Core.Bool.{true, false, _&&_, and-false}
 use mathlib.Core.List.{List}
 use lib.ListN.{length}
 use lib.Dec.{leb}
-use borrow.Author.Tests.{le-leb, lt-leb}
-use Rattle.cdf.specs.Step.{Step, got, stop, bind}
+use borrow.Author.Tests.{le-leb, lt-leb, eq-eqb, ne-eqb}
+use Rattle.cdf.specs.Step.{Step, got, stop, into}
 use Rattle.cdf.specs.declared.version.Admitted.{Admitted}
 use Rattle.cdf.proofs.Laws.Step.{by-got, by-stop, by-true, by-false}
-use Rattle.grammar.specs.Tables.{withCount}
+use Rattle.grammar.specs.Tables.{laid, withCount}
 use Rattle.grammar.specs.Grammar.{header}
-use Rattle.header.specs.Model.{modelHolds}
-use Rattle.header.specs.Records.{sizesHold, endsHold, maxPosition}
-use Rattle.header.specs.Count.{recordCount}
-use Rattle.header.specs.Header.{refusal, accepted, answer, judged, readHeader}
+use Rattle.model.specs.Model.{modelHolds}
+use Rattle.sizes.specs.Records.{sizesHold, endsHold, maxPosition}
+use Rattle.sizes.specs.Count.{recordCount}
+use Rattle.header.specs.Header.{refusal, answer, judged, readHeader, afterHeader}
 use Rattle.grammar.specs.declared.tables.Tables.{Tables}
 use Rattle.header.specs.declared.reader.Header.{Header}
 
@@ -23,7 +23,7 @@ unfolding answer
 answer-stop e f = e ∙ ap answer f
 
 pub answer-got : {m : Step Tables} {t : Tables} {e : ℕ} → got t e ≡ m → record { number = 0; place = 0; end = e; tables = t } ≡ answer m
-unfolding answer accepted
+unfolding answer
 answer-got f = ap answer f
 
 module _ (s : List ℕ) (t : Tables) (e : ℕ) where
@@ -63,10 +63,18 @@ module _ (s : List ℕ) (size : ℕ) (a : Admitted) where
     both-hold : (leb (length s) size && leb size maxPosition) ≡ true
     both-hold = rw (le-leb (length s) size inside, le-leb size maxPosition small)
 
-    pub read-stops : {h : Header} {k p : ℕ} → h ≡ refusal k p → stop k p ≡ header a s size → h ≡ readHeader s size a
+    pub read-stops : {h : Header} {k p : ℕ} → h ≡ refusal k p → stop k p ≡ into laid (header a s size) → h ≡ readHeader s size a
     unfolding readHeader
     read-stops e f = answer-stop e (by-true _ both-hold (by-stop _ f))
 
-    pub read-judged : {h : Header} {t : Tables} {e : ℕ} → got t e ≡ header a s size → h ≡ answer (judged s t e) → h ≡ readHeader s size a
+    pub read-judged : {h : Header} {t : Tables} {e : ℕ} → got t e ≡ into laid (header a s size) → h ≡ answer (judged s t e) → h ≡ readHeader s size a
     unfolding readHeader
     read-judged f g = g ∙ ap answer (by-true _ both-hold (by-got _ _ f refl))
+
+-- what follows a header
+module _ {A : Type 0} (h : Header) (f : Header → Step A) where
+  pub after-refused : (h .number ≡ 0 → ⊥) → stop (h .number) (h .place) ≡ afterHeader h f
+  after-refused n = by-false _ (ne-eqb (h .number) 0 n) refl
+
+  pub after-read : h .number ≡ 0 → f h ≡ afterHeader h f
+  after-read e = by-true _ (eq-eqb (h .number) 0 e) refl

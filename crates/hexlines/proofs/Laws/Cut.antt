@@ -1,7 +1,7 @@
 -- Laws of lines in blocks of text.
 use Prim.Native.Nat.{ℕ, suc, _+_, _-_, _≤_, _<_}
 use mathlib.Core.Path.{_≡_, refl, sym, ap, subst, _∙_}
-use mathlib.Core.Bool.{Bool, true, false, not, cond}
+use mathlib.Core.Bool.{Bool, true, false, cond}
 use mathlib.Core.Logic.{⊎-elim}
 use mathlib.Core.List.{List, [], _∷_, _++_, append-assoc, append-nil}
 use native.Mathlib.Omega.{arith}
@@ -11,7 +11,8 @@ use lib.ListN.{length, take, drop, getD, set, length-append, length-drop}
 use lib.Seq.{take-all, take-take, take-suc, take-suc-set, take-append-le, length-take-le, getD-drop, take-length}
 use lib.Dec.{ltb, eqb}
 use Rattle.cdf.proofs.Laws.Below.{order, first-none, first-is}
-use Rattle.hexlines.specs.Cut.{newline, before, kept, Cuts}
+use Rattle.hexlines.specs.Lines.{newline}
+use Rattle.hexlines.specs.Inner.Cut.{before, kept, Cuts}
 use Rattle.hexlines.specs.declared.cut.Cut.{Cut}
 
 -- a character that is kept, and one that is not
@@ -61,15 +62,15 @@ module _ (block begun : List ℕ) (at : ℕ) where
     before-met h e =
         let d = length-drop at block in
         first-is _ (length (drop at block)) i (omega (arith, d))
-        (λ k l. ap not (ap (λ (c : ℕ). eqb c newline) (getD-drop at block k 0) ∙ ne-eqb (getD block (at + k) 0) newline (passed k l)))
-        (ap not (ap (λ (c : ℕ). eqb c newline) (getD-drop at block i 0) ∙ eq-eqb (getD block (at + i) 0) newline e))
+        (λ k l. ap (λ (c : ℕ). eqb c newline) (getD-drop at block k 0) ∙ ne-eqb (getD block (at + k) 0) newline (passed k l))
+        (ap (λ (c : ℕ). eqb c newline) (getD-drop at block i 0) ∙ eq-eqb (getD block (at + i) 0) newline e)
 
     pub before-all : at ≤ length block → length block - at ≤ i → before (drop at block) ≡ length (drop at block)
     unfolding before
     before-all b h =
         let d = length-drop at block in
         first-none _ (length (drop at block))
-        (λ k l. ap not (ap (λ (c : ℕ). eqb c newline) (getD-drop at block k 0) ∙ ne-eqb (getD block (at + k) 0) newline (passed k (omega (arith, d)))))
+        (λ k l. ap (λ (c : ℕ). eqb c newline) (getD-drop at block k 0) ∙ ne-eqb (getD block (at + k) 0) newline (passed k (omega (arith, d))))
 
     pub cut-closed : (h : ℕ) (after : List ℕ) → at + i < length block → getD block (at + i) 0 ≡ newline
         → take h after ≡ take kept (begun ++ take i (drop at block))

@@ -1,30 +1,31 @@
 -- Laws of numbers in decimal and of text that grows.
 use Prim.Native.Nat.{ℕ, zero, suc, _+_, _-_, _^_, _≤_, _<_}
 use mathlib.Core.Path.{_≡_, refl, sym, ap, subst, _∙_}
-use mathlib.Core.Bool.{Bool, true, false, _||_, or-true}
+use mathlib.Core.Bool.{Bool, true, false, _&&_, and-false}
 use mathlib.Core.Logic.{_⊎_, inl, inr, ⊎-elim}
 use mathlib.Core.List.{List, [], _∷_, _++_, append-assoc, append-nil}
 use native.Mathlib.Omega.{arith}
 use native.Mathlib.Numerals.{add-one}
 use native.Mathlib.Nat.{add-zero, pow-le-pow-right, eq-or-lt-of-le}
-use borrow.Author.Tests.{le-leb, lt-leb, eq-eqb, ne-eqb}
+use borrow.Author.Tests.{lt-ltb, le-ltb}
 use lib.ListN.{length, take, set, getD, length-append}
 use lib.Seq.{take-all, take-suc, take-suc-set}
-use lib.Dec.{leb, eqb}
+use lib.Dec.{ltb}
 use Rattle.io.specs.Digits.{digits, Fewest}
 use Rattle.cdf.proofs.Laws.Below.{order, first-none, first-is}
-use Rattle.hexlines.specs.Text.{places, decimal, Grown, field, fields}
+use Rattle.hexlines.specs.Text.{places, decimal, field, fieldText}
+use Rattle.hexlines.specs.Inner.Grown.{Grown}
 
 -- a number of digits below the fewest is too small, and the fewest is enough
-smaller : (n k j : ℕ) → Fewest 10 1 n k → j < k → (eqb j 0 || leb (10 ^ j) n) ≡ true
+smaller : (n k j : ℕ) → Fewest 10 1 n k → j < k → (ltb 0 j && ltb n (10 ^ j)) ≡ false
 smaller n k zero f l = refl
 smaller n k (suc j) f l =
     let p : 10 ^ suc j ≤ 10 ^ (k - 1) = pow-le-pow-right (omega arith) (omega arith) in
     let q : 10 ^ (k - 1) ≤ n = f .2 (omega arith) in
-    rw (le-leb (10 ^ suc j) n (omega arith), or-true)
+    rw (le-ltb n (10 ^ suc j) (omega arith)) (and-false (ltb 0 (suc j)))
 
-enough : (n k : ℕ) → Fewest 10 1 n k → (eqb k 0 || leb (10 ^ k) n) ≡ false
-enough n k f = rw (ne-eqb k 0 (λ e. omega (arith, f .0)), lt-leb (10 ^ k) n (f .1))
+enough : (n k : ℕ) → Fewest 10 1 n k → (ltb 0 k && ltb n (10 ^ k)) ≡ true
+enough n k f = rw (lt-ltb 0 k (f .0), lt-ltb n (10 ^ k) (f .1))
 
 -- 20 digits hold a number of 64 bits
 pub few-digits : (n k : ℕ) → Fewest 10 1 n k → n < 18446744073709551616 → k ≤ 20
@@ -86,6 +87,6 @@ module _ {s t u : List ℕ} {i j k : ℕ} (n c : ℕ) where
 
 module _ {s t u v w : List ℕ} {i j k l m : ℕ} (a b c d : ℕ) where
   pub grown-fields : Grown s i (field a 32) t j → Grown t j (field b 32) u k → Grown u k (field c 32) v l
-      → Grown v l (field d 10) w m → Grown s i (fields a b c d) w m
-  unfolding fields
+      → Grown v l (field d 10) w m → Grown s i (fieldText a b c d) w m
+  unfolding fieldText
   grown-fields e f g h = grown-then e (grown-then f (grown-then g h))

@@ -11,33 +11,34 @@ use borrow.Author.Tests.{le-leb, leb-true, eqb-true}
 use borrow.Rule.Slice.PartMut.{mid-len}
 use Rattle.bigendian.specs.Number.{be}
 use Rattle.bigendian.proofs.Laws.Number.{be-part}
-use Rattle.cdf.specs.Step.{Step, got, stop, bind, test}
+use Rattle.cdf.specs.Step.{Step, got, stop, bind, test, numberOf, givenOr}
 use Rattle.cdf.proofs.Laws.Step.{bind-came, test-came, got-same, bind-test, bind-bind, bind-same, test-same, either}
-use Rattle.items.specs.Types.{typeOf, sizeOf}
-use Rattle.decode.specs.Lists.{tab, table}
-use Rattle.decode.specs.Values.{rows}
-use Rattle.decode.proofs.Laws.Lists.{table-ext, row-in}
+use Rattle.items.specs.Types.{sizeOf}
+use Rattle.bigendian.specs.Lists.{tab, grid}
+use Rattle.decode.specs.Inner.Chunks.{ofRecord}
+use Rattle.bigendian.proofs.Laws.Lists.{grid-ext, row-in}
 use Rattle.decode.proofs.Laws.Room.{every-record}
 use Rattle.grammar.specs.declared.tables.Tables.{Tables}
-use Rattle.reads.specs.Variable.{soughtAs}
-use Rattle.reads.specs.Values.{recordAt, elementAt, bits, holds, wholeBytes, numberOf, outputOf, recordRead, wholeRead}
-use Rattle.reads.specs.Stretch.{Bounded, recordStretch, wholeStretch, recordOf, wholeOf, filled}
-use Rattle.reads.specs.declared.variable.Variable.{Variable}
-use Rattle.reads.specs.declared.place.Stretch.{Stretch}
-use Rattle.reads.proofs.Laws.Variable.{typed-came}
-use Rattle.reads.proofs.Laws.Values.{held}
-use Rattle.reads.proofs.Laws.Stretch.{bounded}
+use Rattle.reads.specs.Sought.{soughtAs}
+use Rattle.reads.specs.Reads.{recordAt, elementAt, bits, holds, wholeBytes, recordRead, wholeRead}
+use Rattle.reads.specs.Inner.Spot.{Bounded}
+use Rattle.records.specs.Inner.Stretch.{recordStretch, wholeStretch, recordOf, wholeOf, filled}
+use Rattle.reads.specs.declared.variable.Spread.{Spread}
+use Rattle.records.specs.declared.stretch.Stretch.{Stretch}
+use Rattle.reads.proofs.Laws.Sought.{typed-came}
+use Rattle.reads.proofs.Laws.Reads.{held}
+use Rattle.reads.proofs.Laws.Bounded.{bounded}
 
 -- ---- the type that was asked for
-typed-width : (code : ℕ) (t : Tables) (i : ℕ) {v : Variable} {n : ℕ} → got v n ≡ soughtAs code t i → v .width ≡ sizeOf (typeOf code)
-typed-width code t i e = typed-came code t i e (λ _ _ is. bounded code t i e .size ∙ ap (λ (c : ℕ). sizeOf (typeOf c)) is)
+typed-width : (code : ℕ) (t : Tables) (i : ℕ) {v : Spread} {n : ℕ} → got v n ≡ soughtAs code t i → v .width ≡ sizeOf code
+typed-width code t i e = typed-came code t i e (λ _ _ is. bounded code t i e .size ∙ ap (λ (c : ℕ). sizeOf c) is)
 
 -- ---- the values of a part of the window, in the window's own places
 module _ {A : Type 0} (F : ℕ → A) (w : ℕ) (s : List ℕ) where
   table-of-part : (at n m stride : ℕ) (pos : ℕ → ℕ → ℕ) → ((k : ℕ) → k < n → k * stride + w * m ≤ length s - at) → ((k j : ℕ) → k < n → at + (k * stride + w * j) ≡ pos k j)
-      → table (rows F w (take (length s - at) (drop at s)) stride) m n ≡ table (λ k j. F (be w s (pos k j))) m n
+      → grid (ofRecord F w (take (length s - at) (drop at s)) stride) m n ≡ grid (λ k j. F (be w s (pos k j))) m n
   table-of-part at n m stride pos fits is =
-      table-ext _ _ m n (λ k j l h.
+      grid-ext _ _ m n (λ k j l h.
       let row : j * w + w ≤ m * w = row-in j m w (m * w) h (omega arith) in
       let a = mul-comm j w in
       let b = mul-comm m w in
@@ -61,7 +62,7 @@ pub byte-decoder-asks : {room : ℕ} (s : List ℕ) {x : Stretch} → Fits 1 (le
     → (x .count * x .chunk ≤ room) × ((k : ℕ) → k < x .count → k * x .stride + x .chunk ≤ length (take (length s - x .at) (drop (x .at) s)))
 byte-decoder-asks s {x} f = let a = decoder-asks s f in (a .0, λ k l. let q = a .1 k l in let o = one-mul (x .chunk) in omega arith)
 
-module _ (v : Variable) (w : ℕ) (width : v .width ≡ w) (have start room : ℕ) where
+module _ (v : Spread) (w : ℕ) (width : v .width ≡ w) (have start room : ℕ) where
   bytes : v .chunk * v .width ≡ w * v .chunk
   bytes = rw width (mul-comm (v .chunk) w)
 
@@ -95,19 +96,19 @@ module _ (v : Variable) (w : ℕ) (width : v .width ≡ w) (have start room : �
       (record { inside = omega arith; roomy = leb-true _ _ (c .0); each = every-record (v .records) (v .step) (w * v .chunk) _ last }))
 
 module _ (code : ℕ) (t : Tables) (have start i room : ℕ) where
-  pub record-of-fits : (r : ℕ) {x : Stretch} {n : ℕ} → got x n ≡ recordOf code t have start i r room → Fits (sizeOf (typeOf code)) have room x
+  pub record-of-fits : (r : ℕ) {x : Stretch} {n : ℕ} → got x n ≡ recordOf code t have start i r room → Fits (sizeOf code) have room x
   unfolding recordOf
   record-of-fits r {x} e = bind-came (soughtAs code t i) _ e _ (λ v m f g. record-fits v _ (typed-width code t i f) have start room r g)
 
-  pub whole-of-fits : {x : Stretch} {n : ℕ} → got x n ≡ wholeOf code t have start i room → Fits (sizeOf (typeOf code)) have room x
+  pub whole-of-fits : {x : Stretch} {n : ℕ} → got x n ≡ wholeOf code t have start i room → Fits (sizeOf code) have room x
   unfolding wholeOf
   whole-of-fits {x} e = bind-came (soughtAs code t i) _ e _ (λ v m f g. whole-fits v _ (typed-width code t i f) have start room g)
 
 -- ---- the output
-module _ {A : Type 0} (F : ℕ → A) (s : List ℕ) (start : ℕ) (out : List A) (v : Variable) (w : ℕ) (width : v .width ≡ w) where
+module _ {A : Type 0} (F : ℕ → A) (s : List ℕ) (start : ℕ) (out : List A) (v : Spread) (w : ℕ) (width : v .width ≡ w) where
   record-list : (r : ℕ) → holds (length s) start (recordAt v r) (v .chunk * v .width) ≡ true
-      → table (rows F w (take (length s - (recordAt v r - start)) (drop (recordAt v r - start) s)) (v .step)) (v .chunk) 1 ++ drop (1 * v .chunk) out ≡ tab (λ e. F (bits v s start r e)) (v .chunk) ++ drop (v .chunk) out
-  unfolding table
+      → grid (ofRecord F w (take (length s - (recordAt v r - start)) (drop (recordAt v r - start) s)) (v .step)) (v .chunk) 1 ++ drop (1 * v .chunk) out ≡ tab (λ e. F (bits v s start r e)) (v .chunk) ++ drop (v .chunk) out
+  unfolding grid
   record-list r e =
       let h = held (length s) start (recordAt v r) (v .chunk * v .width) (sym e) in
       let q = bytes v w width (length s) start 0 in
@@ -118,7 +119,7 @@ module _ {A : Type 0} (F : ℕ → A) (s : List ℕ) (start : ℕ) (out : List A
       rw (one-mul (v .chunk), width) (ap (λ (l : List A). l ++ drop (v .chunk) out) m)
 
   whole-list : holds (length s) start (v .begin) (wholeBytes v) ≡ true
-      → table (rows F w (take (length s - (v .begin - start)) (drop (v .begin - start) s)) (v .step)) (v .chunk) (v .records) ≡ table (λ k e. F (bits v s start k e)) (v .chunk) (v .records)
+      → grid (ofRecord F w (take (length s - (v .begin - start)) (drop (v .begin - start) s)) (v .step)) (v .chunk) (v .records) ≡ grid (λ k e. F (bits v s start k e)) (v .chunk) (v .records)
   whole-list e =
       let h = held (length s) start (v .begin) (wholeBytes v) (sym e) in
       let q = bytes v w width (length s) start 0 in
@@ -128,17 +129,17 @@ module _ {A : Type 0} (F : ℕ → A) (s : List ℕ) (start : ℕ) (out : List A
   -- the output that a stretch is decoded into
   abbrev decoded : Stretch → ℕ → Step (List A)
   decoded x _ =
-      got (table (rows F w (take (length s - x .at) (drop (x .at) s)) (x .stride)) (x .chunk) (x .count) ++ drop (x .count * x .chunk) out) 0
+      got (grid (ofRecord F w (take (length s - x .at) (drop (x .at) s)) (x .stride)) (x .chunk) (x .count) ++ drop (x .count * x .chunk) out) 0
 
   -- what a whole-variable read leaves where there is room
   abbrev whole : Step (List A)
   whole =
       test (leb (v .records * v .chunk) (length out))
-      (got (table (λ k e. F (bits v s start k e)) (v .chunk) (v .records) ++ drop (v .records * v .chunk) out) 0)
+      (got (grid (λ k e. F (bits v s start k e)) (v .chunk) (v .records) ++ drop (v .records * v .chunk) out) 0)
       (stop 22 0)
 
   whole-nothing : v .records ≡ 0 → decoded (record { at = 0; count = 0; chunk = v .chunk; stride = v .step }) 0 ≡ whole
-  unfolding table test
+  unfolding grid test
   whole-nothing e = rw (e, zero-mul (v .chunk), le-leb 0 (length out) (omega arith))
 
   whole-step : (none : Bool) → eqb (v .records) 0 ≡ none
@@ -154,7 +155,7 @@ module _ {A : Type 0} (F : ℕ → A) (s : List ℕ) (start : ℕ) (out : List A
 
 -- ---- the reads
 module _ {A : Type 0} (F : ℕ → A) (code : ℕ) (t : Tables) (s : List ℕ) (start i : ℕ) (out : List A) where
-  record-is : (r : ℕ) → filled F (sizeOf (typeOf code)) s out (recordOf code t (length s) start i r (length out)) ≡ recordRead F code t s start i r out
+  record-is : (r : ℕ) → filled F (sizeOf code) s out (recordOf code t (length s) start i r (length out)) ≡ recordRead F code t s start i r out
   unfolding filled recordOf recordRead recordStretch bind
   record-is r =
       bind-bind (soughtAs code t i) _ _
@@ -165,7 +166,7 @@ module _ {A : Type 0} (F : ℕ → A) (code : ℕ) (t : Tables) (s : List ℕ) (
       ∙ test-same _ (stop 20 0) (λ h.
       bind-test (leb (v .chunk) (length out)) _ _ _ ∙ test-same _ (stop 22 0) (λ _. ap (λ (l : List A). got l 0) (record-list F s start out v _ (typed-width code t i e) r h)))))
 
-  whole-is : filled F (sizeOf (typeOf code)) s out (wholeOf code t (length s) start i (length out)) ≡ wholeRead F code t s start i out
+  whole-is : filled F (sizeOf code) s out (wholeOf code t (length s) start i (length out)) ≡ wholeRead F code t s start i out
   unfolding filled wholeOf wholeRead wholeStretch
   whole-is =
       bind-bind (soughtAs code t i) _ _
@@ -173,28 +174,28 @@ module _ {A : Type 0} (F : ℕ → A) (code : ℕ) (t : Tables) (s : List ℕ) (
 
   -- the number and the output, by the stretch that was placed or by the refusal
   module _ (m : Step Stretch) (w : ℕ) where
-    filled-stop : {k : ℕ} → stop k 0 ≡ m → (k ≡ numberOf (filled F w s out m)) × (out ≡ outputOf out (filled F w s out m))
+    filled-stop : {k : ℕ} → stop k 0 ≡ m → (k ≡ numberOf (filled F w s out m)) × (out ≡ givenOr out (filled F w s out m))
     unfolding filled bind
-    filled-stop e = (ap (λ n. numberOf (filled F w s out n)) e, ap (λ n. outputOf out (filled F w s out n)) e)
+    filled-stop e = (ap (λ n. numberOf (filled F w s out n)) e, ap (λ n. givenOr out (filled F w s out n)) e)
 
     filled-got : {x : Stretch} {new : List A} → got x 0 ≡ m
-        → new ≡ table (rows F w (take (length s - x .at) (drop (x .at) s)) (x .stride)) (x .chunk) (x .count) ++ drop (x .count * x .chunk) out
-        → (0 ≡ numberOf (filled F w s out m)) × (new ≡ outputOf out (filled F w s out m))
+        → new ≡ grid (ofRecord F w (take (length s - x .at) (drop (x .at) s)) (x .stride)) (x .chunk) (x .count) ++ drop (x .count * x .chunk) out
+        → (0 ≡ numberOf (filled F w s out m)) × (new ≡ givenOr out (filled F w s out m))
     unfolding filled bind
-    filled-got e q = (ap (λ n. numberOf (filled F w s out n)) e, q ∙ ap (λ n. outputOf out (filled F w s out n)) e)
+    filled-got e q = (ap (λ n. numberOf (filled F w s out n)) e, q ∙ ap (λ n. givenOr out (filled F w s out n)) e)
 
-  pub record-stop : {k : ℕ} (r : ℕ) → stop k 0 ≡ recordOf code t (length s) start i r (length out) → (k ≡ numberOf (recordRead F code t s start i r out)) × (out ≡ outputOf out (recordRead F code t s start i r out))
-  record-stop {k} r e = subst (λ (y : Step (List A)). (k ≡ numberOf y) × (out ≡ outputOf out y)) (record-is r) (filled-stop _ _ e)
+  pub record-stop : {k : ℕ} (r : ℕ) → stop k 0 ≡ recordOf code t (length s) start i r (length out) → (k ≡ numberOf (recordRead F code t s start i r out)) × (out ≡ givenOr out (recordRead F code t s start i r out))
+  record-stop {k} r e = subst (λ (y : Step (List A)). (k ≡ numberOf y) × (out ≡ givenOr out y)) (record-is r) (filled-stop _ _ e)
 
   pub record-got : {x : Stretch} {new : List A} (r : ℕ) → got x 0 ≡ recordOf code t (length s) start i r (length out)
-      → new ≡ table (rows F (sizeOf (typeOf code)) (take (length s - x .at) (drop (x .at) s)) (x .stride)) (x .chunk) (x .count) ++ drop (x .count * x .chunk) out
-      → (0 ≡ numberOf (recordRead F code t s start i r out)) × (new ≡ outputOf out (recordRead F code t s start i r out))
-  record-got {new = new} r e q = subst (λ (y : Step (List A)). (0 ≡ numberOf y) × (new ≡ outputOf out y)) (record-is r) (filled-got _ _ e q)
+      → new ≡ grid (ofRecord F (sizeOf code) (take (length s - x .at) (drop (x .at) s)) (x .stride)) (x .chunk) (x .count) ++ drop (x .count * x .chunk) out
+      → (0 ≡ numberOf (recordRead F code t s start i r out)) × (new ≡ givenOr out (recordRead F code t s start i r out))
+  record-got {new = new} r e q = subst (λ (y : Step (List A)). (0 ≡ numberOf y) × (new ≡ givenOr out y)) (record-is r) (filled-got _ _ e q)
 
-  pub whole-stop : {k : ℕ} → stop k 0 ≡ wholeOf code t (length s) start i (length out) → (k ≡ numberOf (wholeRead F code t s start i out)) × (out ≡ outputOf out (wholeRead F code t s start i out))
-  whole-stop {k} e = subst (λ (y : Step (List A)). (k ≡ numberOf y) × (out ≡ outputOf out y)) whole-is (filled-stop _ _ e)
+  pub whole-stop : {k : ℕ} → stop k 0 ≡ wholeOf code t (length s) start i (length out) → (k ≡ numberOf (wholeRead F code t s start i out)) × (out ≡ givenOr out (wholeRead F code t s start i out))
+  whole-stop {k} e = subst (λ (y : Step (List A)). (k ≡ numberOf y) × (out ≡ givenOr out y)) whole-is (filled-stop _ _ e)
 
   pub whole-got : {x : Stretch} {new : List A} → got x 0 ≡ wholeOf code t (length s) start i (length out)
-      → new ≡ table (rows F (sizeOf (typeOf code)) (take (length s - x .at) (drop (x .at) s)) (x .stride)) (x .chunk) (x .count) ++ drop (x .count * x .chunk) out
-      → (0 ≡ numberOf (wholeRead F code t s start i out)) × (new ≡ outputOf out (wholeRead F code t s start i out))
-  whole-got {new = new} e q = subst (λ (y : Step (List A)). (0 ≡ numberOf y) × (new ≡ outputOf out y)) whole-is (filled-got _ _ e q)
+      → new ≡ grid (ofRecord F (sizeOf code) (take (length s - x .at) (drop (x .at) s)) (x .stride)) (x .chunk) (x .count) ++ drop (x .count * x .chunk) out
+      → (0 ≡ numberOf (wholeRead F code t s start i out)) × (new ≡ givenOr out (wholeRead F code t s start i out))
+  whole-got {new = new} e q = subst (λ (y : Step (List A)). (0 ≡ numberOf y) × (new ≡ givenOr out y)) whole-is (filled-got _ _ e q)

@@ -3,7 +3,7 @@ use native.Mathlib.Omega.{arith}
 use mathlib.Core.Path.{sym, subst}
 use lib.Seq.{length-take-le}
 use Prim.Native.Nat.{_≤_}
-use Rattle.hexlines.specs.Line.{size}
+use Rattle.hexlines.specs.Inner.Answers.{fileSize}
 use Rattle.hexlines.specs.declared.line.Line.{Line}
 use Rattle.replay.proofs.loaded.Statement.{statement}
 use Rattle.replay.proofs.loaded.Tie as tie
@@ -16,12 +16,12 @@ enum-known-n c = search needs
 
 slice-reshare-prefix-opened : tie.Need-slice-reshare-prefix-opened
 slice-reshare-prefix-opened c =
-    let fits : c .before .n .given .0 .0 ≤ 8192 = subst (λ (w : Line). size w ≤ 8192) (c .before .n .given .1) (c .before .before .before .before .before .line-answer .ensures .1) in
+    let fits : c .before .n .given .0 .0 ≤ 8192 = subst (λ (w : Line). fileSize w ≤ 8192) (c .before .n .given .1) (c .before .before .before .before .before .line-answer .ensures .1) in
     omega (arith, fits, c .before .before .before .before .before .line-answer .kept)
 
 slice-aggregate-opened : tie.Need-slice-aggregate-opened
 slice-aggregate-opened c =
-    let fits : c .before .before .n .given .0 .0 ≤ 8192 = subst (λ (w : Line). size w ≤ 8192) (c .before .before .n .given .1) (c .before .before .before .before .before .before .line-answer .ensures .1) in
+    let fits : c .before .before .n .given .0 .0 ≤ 8192 = subst (λ (w : Line). fileSize w ≤ 8192) (c .before .before .n .given .1) (c .before .before .before .before .before .before .line-answer .ensures .1) in
     sym (length-take-le _ _ (omega (arith, fits, c .before .before .before .before .before .before .line-answer .kept)))
 
 opened-requires : tie.Need-opened-requires

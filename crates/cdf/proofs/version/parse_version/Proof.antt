@@ -1,4 +1,4 @@
-use Rattle.cdf.proofs.Laws.Magic.{version-got, version-short, version-bad}
+use Rattle.cdf.proofs.Laws.Magic.{versionByte-got, versionByte-short, versionByte-bad}
 use mathlib.Core.Path.{refl, sym, _∙_}
 use native.Mathlib.Omega.{arith}
 use borrow.Author.Needs.{needs}
@@ -9,7 +9,7 @@ unfinished-requires : tie.Need-unfinished-requires
 unfinished-requires c κs = search needs
 
 returns : tie.Need-returns
-returns c = version-short _ _ _ _ (omega arith) (c .unfinished .ensures)
+returns c = versionByte-short _ _ _ _ (omega arith) (c .unfinished .ensures)
 
 shared-slice-read-v : tie.Need-shared-slice-read-v
 shared-slice-read-v c = search needs
@@ -24,10 +24,10 @@ add-t13 : tie.Need-add-t13
 add-t13 c = search needs
 
 returns-2 : tie.Need-returns-2
-returns-2 c = version-got _ _ _ _ (omega arith) refl (sym (c .if2 .taken) ∙ c .before .admits .ensures)
+returns-2 c = versionByte-got _ _ _ _ (omega arith) refl (sym (c .if2 .taken) ∙ c .before .admits .ensures)
 
 returns-3 : tie.Need-returns-3
-returns-3 c = version-bad _ _ _ _ (omega arith) refl (sym (c .if2 .left) ∙ c .before .admits .ensures)
+returns-3 c = versionByte-bad _ _ _ _ (omega arith) refl (sym (c .if2 .left) ∙ c .before .admits .ensures)
 
 pub parse-version-spec : {M : Type 1} → statement M
 parse-version-spec =

@@ -1,5 +1,5 @@
 use Rattle.cdf.proofs.Laws.Word.{nonNegative-stop, nonNegative-got, nonNegative-bad}
-use Rattle.cdf.specs.Word.{ofWord}
+use Rattle.cdf.specs.Inner.Answers.{ofWord}
 use mathlib.Core.Path.{sym, ap, _∙_}
 use borrow.Author.Needs.{needs}
 use Rattle.cdf.proofs.word.parse_non_neg.Statement.{statement}

@@ -1,5 +1,5 @@
 use Rattle.cdf.proofs.Laws.Word.{openCount-stop, openCount-got, openCount-open, openCount-bad}
-use Rattle.cdf.specs.Word.{ofWord}
+use Rattle.cdf.specs.Inner.Answers.{ofWord}
 use mathlib.Core.Path.{sym, ap, _∙_}
 use borrow.Author.Needs.{needs}
 use Rattle.cdf.proofs.word.parse_open_count.Statement.{statement}

@@ -3,13 +3,14 @@ use Prim.Native.Nat.{_-_}
 use mathlib.Core.Path.{ap, _∙_}
 use lib.Ieee.{binary32, ofBits}
 use lib.ListN.{length}
-use Rattle.decode.specs.Values.{float, values}
+use Rattle.decode.specs.Decoded.{float}
+use Rattle.decode.specs.Inner.Chunks.{ofChunk}
 use Rattle.decode.proofs.Laws.Filled.{Filled, filled-none, filled-more, filled-all}
 use Rattle.decode.proofs.chunk.decode_f32.Statement.{statement}
 use Rattle.decode.proofs.chunk.decode_f32.Tie as tie
 
 abbrev Inv-loop : tie.InvT-loop
-Inv-loop src out₀ i₀ out i = Filled (values float 4 src) out₀ out i
+Inv-loop src out₀ i₀ out i = Filled (ofChunk float 4 src) out₀ out i
 
 abbrev μ-loop : tie.MeasureT-loop
 μ-loop src out₀ i₀ out i = length out₀ - i

@@ -4,15 +4,16 @@ use mathlib.Core.Path.{_∙_}
 use native.Mathlib.Omega.{arith}
 use mir.Syntax.{w16}
 use lib.ListN.{length-set}
-use Rattle.decode.specs.Values.{short, values}
-use Rattle.decode.proofs.Laws.Values.{stored}
+use Rattle.decode.specs.Decoded.{short}
+use Rattle.decode.specs.Inner.Chunks.{ofChunk}
+use Rattle.decode.proofs.Laws.Decoded.{stored}
 use Rattle.decode.proofs.Laws.Halves.{first-half, second-half}
 use Rattle.decode.proofs.Laws.Filled.{Filled, filled-none, filled-pair, filled-last, filled-all}
 use Rattle.decode.proofs.chunk.decode_i16.Statement.{statement}
 use Rattle.decode.proofs.chunk.decode_i16.Tie as tie
 
 abbrev Inv-loop : tie.InvT-loop
-Inv-loop src out₀ n h j₀ out j = Filled (values short 2 src) out₀ out (2 * j)
+Inv-loop src out₀ n h j₀ out j = Filled (ofChunk short 2 src) out₀ out (2 * j)
 
 abbrev μ-loop : tie.MeasureT-loop
 μ-loop src out₀ n h j₀ out j = h - j

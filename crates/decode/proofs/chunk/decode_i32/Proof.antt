@@ -2,14 +2,15 @@ use borrow.Author.Needs.{needs}
 use Prim.Native.Nat.{_-_}
 use mir.Syntax.{w32}
 use lib.ListN.{length}
-use Rattle.decode.specs.Values.{int, values}
-use Rattle.decode.proofs.Laws.Values.{stored}
+use Rattle.decode.specs.Decoded.{int}
+use Rattle.decode.specs.Inner.Chunks.{ofChunk}
+use Rattle.decode.proofs.Laws.Decoded.{stored}
 use Rattle.decode.proofs.Laws.Filled.{Filled, filled-none, filled-more, filled-all}
 use Rattle.decode.proofs.chunk.decode_i32.Statement.{statement}
 use Rattle.decode.proofs.chunk.decode_i32.Tie as tie
 
 abbrev Inv-loop : tie.InvT-loop
-Inv-loop src out₀ i₀ out i = Filled (values int 4 src) out₀ out i
+Inv-loop src out₀ i₀ out i = Filled (ofChunk int 4 src) out₀ out i
 
 abbrev μ-loop : tie.MeasureT-loop
 μ-loop src out₀ i₀ out i = length out₀ - i

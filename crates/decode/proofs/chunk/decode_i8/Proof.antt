@@ -2,14 +2,15 @@ use borrow.Author.Needs.{needs}
 use Prim.Native.Nat.{_-_}
 use mir.Syntax.{w8}
 use lib.ListN.{length}
-use Rattle.decode.specs.Values.{byte, values}
-use Rattle.decode.proofs.Laws.Values.{one-byte, stored}
+use Rattle.decode.specs.Decoded.{byte}
+use Rattle.decode.specs.Inner.Chunks.{ofChunk}
+use Rattle.decode.proofs.Laws.Decoded.{one-byte, stored}
 use Rattle.decode.proofs.Laws.Filled.{Filled, filled-none, filled-more, filled-all}
 use Rattle.decode.proofs.chunk.decode_i8.Statement.{statement}
 use Rattle.decode.proofs.chunk.decode_i8.Tie as tie
 
 abbrev Inv-loop : tie.InvT-loop
-Inv-loop src out₀ i₀ out i = Filled (values byte 1 src) out₀ out i
+Inv-loop src out₀ i₀ out i = Filled (ofChunk byte 1 src) out₀ out i
 
 abbrev μ-loop : tie.MeasureT-loop
 μ-loop src out₀ i₀ out i = length out₀ - i

@@ -1,13 +1,14 @@
 use borrow.Author.Needs.{needs}
 use Prim.Native.Nat.{_-_}
 use lib.ListN.{length}
-use Rattle.decode.specs.Values.{number, values}
+use Rattle.decode.specs.Decoded.{raw}
+use Rattle.decode.specs.Inner.Chunks.{ofChunk}
 use Rattle.decode.proofs.Laws.Filled.{Filled, filled-none, filled-more, filled-all}
 use Rattle.decode.proofs.chunk.decode_u64.Statement.{statement}
 use Rattle.decode.proofs.chunk.decode_u64.Tie as tie
 
 abbrev Inv-loop : tie.InvT-loop
-Inv-loop src out₀ i₀ out i = Filled (values number 8 src) out₀ out i
+Inv-loop src out₀ i₀ out i = Filled (ofChunk raw 8 src) out₀ out i
 
 abbrev μ-loop : tie.MeasureT-loop
 μ-loop src out₀ i₀ out i = length out₀ - i

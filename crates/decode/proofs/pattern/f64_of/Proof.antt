@@ -1,6 +1,6 @@
 use borrow.Author.Needs.{needs}
 use lib.Ieee.{binary64}
-use Rattle.decode.proofs.Laws.Values.{nan-pattern, no-nan-pattern}
+use Rattle.decode.proofs.Laws.Decoded.{nan-pattern, no-nan-pattern}
 use Rattle.decode.proofs.pattern.f64_of.Statement.{statement}
 use Rattle.decode.proofs.pattern.f64_of.Tie as tie
 

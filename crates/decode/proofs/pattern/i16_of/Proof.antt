@@ -2,7 +2,7 @@ use borrow.Author.Needs.{needs}
 use native.Mathlib.Omega.{arith}
 use Prim.Native.Nat.{_-_}
 use mir.Syntax.{w16}
-use Rattle.decode.proofs.Laws.Values.{flip, flip-fits}
+use Rattle.decode.proofs.Laws.Decoded.{flip, flip-fits}
 use Rattle.decode.proofs.pattern.i16_of.Statement.{statement}
 use Rattle.decode.proofs.pattern.i16_of.Tie as tie
 

@@ -2,7 +2,7 @@ use borrow.Author.Needs.{needs}
 use native.Mathlib.Omega.{arith}
 use Prim.Native.Nat.{_-_}
 use mir.Syntax.{w8}
-use Rattle.decode.proofs.Laws.Values.{flip, flip-fits}
+use Rattle.decode.proofs.Laws.Decoded.{flip, flip-fits}
 use Rattle.decode.proofs.pattern.i8_of.Statement.{statement}
 use Rattle.decode.proofs.pattern.i8_of.Tie as tie
 

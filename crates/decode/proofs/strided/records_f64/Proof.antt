@@ -6,15 +6,16 @@ use mathlib.Core.List.{_++_}
 use denote.Ref.{now}
 use lib.ListN.{length, drop}
 use borrow.Rule.Slice.PartMut.{mid-len}
-use Rattle.decode.specs.Lists.{table}
-use Rattle.decode.specs.Values.{double, rows}
-use Rattle.decode.proofs.Laws.Lists.{row-in}
+use Rattle.bigendian.specs.Lists.{grid}
+use Rattle.decode.specs.Decoded.{double}
+use Rattle.decode.specs.Inner.Chunks.{ofRecord}
+use Rattle.bigendian.proofs.Laws.Lists.{row-in}
 use Rattle.decode.proofs.Laws.Tabled.{Tabled, tabled-none, tabled-more, row-of-part}
 use Rattle.decode.proofs.strided.records_f64.Statement.{statement}
 use Rattle.decode.proofs.strided.records_f64.Tie as tie
 
 abbrev Inv-loop : tie.InvT-loop
-Inv-loop src out₀ count chunk stride k₀ out k = (k ≤ count) × Tabled (rows double 8 src stride) chunk out₀ out k
+Inv-loop src out₀ count chunk stride k₀ out k = (k ≤ count) × Tabled (ofRecord double 8 src stride) chunk out₀ out k
 
 abbrev μ-loop : tie.MeasureT-loop
 μ-loop src out₀ count chunk stride k₀ out k = count - k
@@ -97,7 +98,7 @@ returns : tie.Need-returns Inv-loop μ-loop
 returns c =
     let start = c .before .before .before .before in
     c .before .loop .inv .1 .is
-    ∙ ap (λ (k : ℕ). table (rows double 8 (now (start .args .src)) (start .args .stride)) (start .args .chunk) k ++ drop (k * start .args .chunk) (now (start .args .out))) (omega arith)
+    ∙ ap (λ (k : ℕ). grid (ofRecord double 8 (now (start .args .src)) (start .args .stride)) (start .args .chunk) k ++ drop (k * start .args .chunk) (now (start .args .out))) (omega arith)
 
 pub records-f64-spec : {M : Type 1} → statement M
 records-f64-spec =

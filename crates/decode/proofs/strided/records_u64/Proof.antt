@@ -6,15 +6,16 @@ use mathlib.Core.List.{_++_}
 use denote.Ref.{now}
 use lib.ListN.{length, drop}
 use borrow.Rule.Slice.PartMut.{mid-len}
-use Rattle.decode.specs.Lists.{table}
-use Rattle.decode.specs.Values.{number, rows}
-use Rattle.decode.proofs.Laws.Lists.{row-in}
+use Rattle.bigendian.specs.Lists.{grid}
+use Rattle.decode.specs.Decoded.{raw}
+use Rattle.decode.specs.Inner.Chunks.{ofRecord}
+use Rattle.bigendian.proofs.Laws.Lists.{row-in}
 use Rattle.decode.proofs.Laws.Tabled.{Tabled, tabled-none, tabled-more, row-of-part}
 use Rattle.decode.proofs.strided.records_u64.Statement.{statement}
 use Rattle.decode.proofs.strided.records_u64.Tie as tie
 
 abbrev Inv-loop : tie.InvT-loop
-Inv-loop src out₀ count chunk stride k₀ out k = (k ≤ count) × Tabled (rows number 8 src stride) chunk out₀ out k
+Inv-loop src out₀ count chunk stride k₀ out k = (k ≤ count) × Tabled (ofRecord raw 8 src stride) chunk out₀ out k
 
 abbrev μ-loop : tie.MeasureT-loop
 μ-loop src out₀ count chunk stride k₀ out k = count - k
@@ -87,7 +88,7 @@ loop-again c =
     let a = at-loop .before .before .before .args in (
       search needs,
       tabled-more _ _ _ _ (at-loop .loop .inv .1) (omega arith)
-          (c .before .before .decode-u64 .ensures ∙ row-of-part number 8 (now (a .src)) (at-loop .loop .k * a .stride) _ (at-loop .loop .out) (at-loop .loop .k * a .chunk) (a .chunk) (omega arith) (i .0)),
+          (c .before .before .decode-u64 .ensures ∙ row-of-part raw 8 (now (a .src)) (at-loop .loop .k * a .stride) _ (at-loop .loop .out) (at-loop .loop .k * a .chunk) (a .chunk) (omega arith) (i .0)),
     )
 
 same-length : tie.Need-same-length Inv-loop μ-loop
@@ -97,7 +98,7 @@ returns : tie.Need-returns Inv-loop μ-loop
 returns c =
     let start = c .before .before .before .before in
     c .before .loop .inv .1 .is
-    ∙ ap (λ (k : ℕ). table (rows number 8 (now (start .args .src)) (start .args .stride)) (start .args .chunk) k ++ drop (k * start .args .chunk) (now (start .args .out))) (omega arith)
+    ∙ ap (λ (k : ℕ). grid (ofRecord raw 8 (now (start .args .src)) (start .args .stride)) (start .args .chunk) k ++ drop (k * start .args .chunk) (now (start .args .out))) (omega arith)
 
 pub records-u64-spec : {M : Type 1} → statement M
 records-u64-spec =

@@ -1,7 +1,8 @@
 use Rattle.grammar.specs.Attrs.{attr}
+use Rattle.grammar.specs.Inner.Parts.{attrValues}
 use Rattle.items.proofs.Laws.Name.{name-ends, name-within}
 use Rattle.cdf.proofs.Laws.Step.{got-ends, by-got, by-stop}
-use Rattle.cdf.specs.Word.{ofWord}
+use Rattle.cdf.specs.Inner.Answers.{ofWord}
 use native.Mathlib.Omega.{arith}
 use mathlib.Core.Path.{sym, ap, _∙_}
 use borrow.Author.Needs.{needs}
@@ -27,11 +28,11 @@ parse-attr-values-requires : tie.Need-parse-attr-values-requires
 parse-attr-values-requires c κs = got-ends (ap ofWord (sym (c .before .chars .given .1)) ∙ c .before .before .before .parse-name-string .ensures) (name-ends _ _ _ _)
 
 returns : tie.Need-returns
-unfolding attr
+unfolding attr attrValues
 returns c = by-stop _ (ap ofWord (sym (c .before .k .given .1)) ∙ c .before .before .before .parse-name-string .ensures)
 
 returns-2 : tie.Need-returns-2
-unfolding attr
+unfolding attr attrValues
 returns-2 c = by-got _ _ (ap ofWord (sym (c .before .before .chars .given .1)) ∙ c .before .before .before .before .parse-name-string .ensures) (c .parse-attr-values .ensures)
 
 pub parse-attr-spec : {M : Type 1} → statement M

@@ -1,12 +1,10 @@
 use Rattle.items.specs.Values.{values}
-use Rattle.grammar.specs.Attrs.{attrValues}
-use Rattle.grammar.proofs.Laws.Lists.{size-high}
+use Rattle.grammar.specs.Inner.Parts.{attrValues}
 use Rattle.cdf.proofs.Laws.Word.{nonNegative-ends, nonNegative-below}
-use Rattle.items.proofs.Laws.Types.{type-ends}
+use Rattle.items.proofs.Laws.Types.{size-high, type-ends}
 use Rattle.cdf.proofs.Laws.Step.{got-ends, by-got, by-stop}
-use Rattle.items.specs.Types.{ofTyped}
-use Rattle.cdf.specs.Magic.{ofNext}
-use Rattle.cdf.specs.Word.{ofWord}
+use Rattle.items.specs.Inner.DataTypes.{ofTyped, codeOf}
+use Rattle.cdf.specs.Inner.Answers.{ofNext, ofWord}
 use native.Mathlib.Omega.{arith}
 use Prim.Native.Nat.{ℕ, _≤_}
 use mathlib.Core.Path.{refl, sym, ap, subst, _∙_}
@@ -36,7 +34,7 @@ size-of-requires : tie.Need-size-of-requires
 size-of-requires c κs = search needs
 
 parse-typed-data-elements-requires : tie.Need-parse-typed-data-elements-requires
-parse-typed-data-elements-requires c κs = let e = ap ofWord (sym (c .before .before .count .given .1)) ∙ c .before .before .before .before .parse-non-neg .ensures in (got-ends e (nonNegative-ends _ _ _ _), nonNegative-below _ _ _ _ e, subst (λ (n : ℕ). n ≤ 8) (sym (c .size-of .ensures)) (size-high (c .before .before .before .before .before .before .kind .given .0 .0)))
+parse-typed-data-elements-requires c κs = let e = ap ofWord (sym (c .before .before .count .given .1)) ∙ c .before .before .before .before .parse-non-neg .ensures in (got-ends e (nonNegative-ends _ _ _ _), nonNegative-below _ _ _ _ e, subst (λ (n : ℕ). n ≤ 8) (sym (c .size-of .ensures)) (size-high (codeOf (c .before .before .before .before .before .before .kind .given .0 .0))))
 
 enum-known-k-3 : tie.Need-enum-known-k-3
 enum-known-k-3 c = search needs

@@ -1,7 +1,7 @@
 use Rattle.grammar.specs.Dims.{dim}
 use Rattle.items.proofs.Laws.Name.{name-ends, name-within}
 use Rattle.cdf.proofs.Laws.Step.{got-ends, by-got, by-stop}
-use Rattle.cdf.specs.Word.{ofWord}
+use Rattle.cdf.specs.Inner.Answers.{ofWord}
 use Rattle.cdf.proofs.Laws.Word.{nonNegative-below}
 use native.Mathlib.Omega.{arith}
 use mathlib.Core.Path.{refl, sym, ap, _∙_}

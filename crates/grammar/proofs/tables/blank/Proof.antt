@@ -1,4 +1,5 @@
 use Rattle.grammar.specs.Tables.{blank}
+use Rattle.grammar.specs.Inner.Parts.{started}
 use borrow.Author.Needs.{needs}
 use Rattle.grammar.proofs.tables.blank.Statement.{statement}
 use Rattle.grammar.proofs.tables.blank.Tie as tie
@@ -7,7 +8,7 @@ started-requires : tie.Need-started-requires
 started-requires c κs = search needs
 
 returns : tie.Need-returns
-unfolding blank
+unfolding blank started
 returns c = c .started .ensures
 
 pub blank-spec : {M : Type 1} → statement M

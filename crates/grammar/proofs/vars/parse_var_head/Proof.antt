@@ -1,9 +1,9 @@
 use Rattle.grammar.specs.declared.tables.Var.{Var}
-use Rattle.grammar.specs.Vars.{varHead}
+use Rattle.grammar.specs.Inner.Parts.{varHead}
 use Rattle.items.proofs.Laws.Name.{name-ends, name-within}
-use Rattle.cdf.proofs.Laws.Word.{count-ends, count-within}
-use Rattle.cdf.proofs.Laws.Step.{got-ends, by-got, by-stop}
-use Rattle.cdf.specs.Word.{ofWord}
+use Rattle.cdf.proofs.Laws.Word.{nelems-ends, nelems-within}
+use Rattle.cdf.proofs.Laws.Step.{got-ends, by-got, by-stop, into-stop, into-after, into-last}
+use Rattle.cdf.specs.Inner.Answers.{ofWord}
 use native.Mathlib.Omega.{arith}
 use mathlib.Core.Path.{sym, ap, _∙_}
 use borrow.Author.Needs.{needs}
@@ -44,19 +44,25 @@ named-requires-3 : tie.Need-named-requires-3
 named-requires-3 c κs = search needs
 
 parse-dim-ids-requires : tie.Need-parse-dim-ids-requires
-parse-dim-ids-requires c κs = let e = ap ofWord (sym (c .before .before .rank .given .1)) ∙ c .before .before .before .before .parse-count .ensures in (got-ends e (count-ends _ _ _ _ _), omega (arith, count-within _ _ _ _ _ e, ap (λ (v : Var). v .rank) (c .named3 .ensures)))
+parse-dim-ids-requires c κs = let e = ap ofWord (sym (c .before .before .rank .given .1)) ∙ c .before .before .before .before .parse-count .ensures in (got-ends e (nelems-ends _ _ _ _ _), ap (λ (v : Var). v .rank) (c .named3 .ensures), nelems-within _ _ _ _ _ e)
 
 returns : tie.Need-returns
 unfolding varHead
-returns c = (by-stop _ (ap ofWord (sym (c .before .before .k .given .1)) ∙ c .before .before .before .before .parse-name-string .ensures), omega (arith, ap (λ (v : Var). v .rank) (c .named .ensures)))
+returns c = into-stop _ (by-stop _ (ap ofWord (sym (c .before .before .k .given .1)) ∙ c .before .before .before .before .parse-name-string .ensures))
 
 returns-2 : tie.Need-returns-2
 unfolding varHead
-returns-2 c = (by-got _ _ (ap ofWord (sym (c .before .before .before .before .before .before .chars .given .1)) ∙ c .before .before .before .before .before .before .before .before .parse-name-string .ensures) (by-stop _ (ap ofWord (sym (c .before .before .k2 .given .1)) ∙ c .before .before .before .before .parse-count .ensures)), omega (arith, ap (λ (v : Var). v .rank) (c .named2 .ensures)))
+returns-2 c =
+    into-stop _
+    (by-got _ _ (ap ofWord (sym (c .before .before .before .before .before .before .chars .given .1)) ∙ c .before .before .before .before .before .before .before .before .parse-name-string .ensures)
+    (by-stop _ (ap ofWord (sym (c .before .before .k2 .given .1)) ∙ c .before .before .before .before .parse-count .ensures)))
 
 returns-3 : tie.Need-returns-3
 unfolding varHead
-returns-3 c = (by-got _ _ (ap ofWord (sym (c .before .before .before .before .before .before .before .chars .given .1)) ∙ c .before .before .before .before .before .before .before .before .before .parse-name-string .ensures) (by-got _ _ (ap ofWord (sym (c .before .before .before .rank .given .1)) ∙ c .before .before .before .before .before .parse-count .ensures) (rw (← c .before .named3 .ensures) (c .parse-dim-ids .ensures .0))), c .parse-dim-ids .ensures .1)
+returns-3 c =
+    into-after _ _ _ (ap ofWord (sym (c .before .before .before .before .before .before .before .chars .given .1)) ∙ c .before .before .before .before .before .before .before .before .before .parse-name-string .ensures)
+    (into-after _ _ _ (ap ofWord (sym (c .before .before .before .rank .given .1)) ∙ c .before .before .before .before .before .parse-count .ensures)
+    (c .parse-dim-ids .ensures _ _ (c .before .named3 .ensures) ∙ into-last _ _ _))
 
 pub parse-var-head-spec : {M : Type 1} → statement M
 parse-var-head-spec =

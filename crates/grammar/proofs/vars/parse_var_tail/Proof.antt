@@ -1,9 +1,9 @@
-use Rattle.grammar.specs.Vars.{varTail}
+use Rattle.grammar.specs.Inner.Parts.{varTail}
 use Rattle.cdf.proofs.Laws.Word.{openCount-ends}
 use Rattle.items.proofs.Laws.Types.{type-ends}
 use Rattle.cdf.proofs.Laws.Step.{got-ends, by-got, by-stop}
-use Rattle.items.specs.Types.{ofTyped}
-use Rattle.cdf.specs.Word.{ofWord}
+use Rattle.items.specs.Inner.DataTypes.{ofTyped}
+use Rattle.cdf.specs.Inner.Answers.{ofWord}
 use mathlib.Core.Path.{refl, sym, ap, _∙_}
 use borrow.Author.Needs.{needs}
 use Rattle.grammar.proofs.vars.parse_var_tail.Statement.{statement}

@@ -1,7 +1,8 @@
+use Rattle.grammar.specs.Inner.Parts.{vars}
 use Rattle.grammar.specs.Vars.{varList}
 use Rattle.cdf.proofs.Laws.ListStart.{start-ends, start-within}
-use Rattle.cdf.proofs.Laws.Step.{got-ends, by-got, by-stop}
-use Rattle.cdf.specs.Word.{ofWord}
+use Rattle.cdf.proofs.Laws.Step.{got-ends, by-stop, into-stop, into-after}
+use Rattle.cdf.specs.Inner.Answers.{ofWord}
 use native.Mathlib.Omega.{arith}
 use mathlib.Core.Path.{sym, ap, _∙_}
 use borrow.Author.Needs.{needs}
@@ -25,11 +26,11 @@ parse-vars-requires c κs = let e = ap ofWord (sym (c .before .n .given .1)) ∙
 
 returns : tie.Need-returns
 unfolding varList
-returns c = (c .stopped .ensures .0 ∙ by-stop _ (ap ofWord (sym (c .before .before .k .given .1)) ∙ c .before .before .before .before .parse-list-start .ensures), c .stopped .ensures .1)
+returns c w ds gs is = c .stopped .ensures ∙ into-stop _ (by-stop _ (ap ofWord (sym (c .before .before .k .given .1)) ∙ c .before .before .before .before .parse-list-start .ensures))
 
 returns-2 : tie.Need-returns-2
-unfolding varList
-returns-2 c = (by-got _ _ (ap ofWord (sym (c .before .before .n .given .1)) ∙ c .before .before .before .before .parse-list-start .ensures) (c .parse-vars .ensures .0), c .parse-vars .ensures .1)
+unfolding varList vars
+returns-2 c w ds gs is = into-after _ _ _ (ap ofWord (sym (c .before .before .n .given .1)) ∙ c .before .before .before .before .parse-list-start .ensures) (c .parse-vars .ensures w ds gs is)
 
 pub parse-vars-list-spec : {M : Type 1} → statement M
 parse-vars-list-spec =

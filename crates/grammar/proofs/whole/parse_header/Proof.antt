@@ -1,10 +1,10 @@
-use Rattle.grammar.proofs.Laws.Tables.{started-empty, within-blank}
+use Rattle.grammar.proofs.Laws.Tables.{started-word}
 use Rattle.grammar.specs.Grammar.{header}
+use Rattle.grammar.specs.Inner.Parts.{lists}
 use Rattle.cdf.proofs.Laws.Word.{openCount-ends}
-use Rattle.cdf.proofs.Laws.Magic.{magic-ends, version-ends, version-is}
-use Rattle.cdf.proofs.Laws.Step.{got-ends, by-got, by-stop}
-use Rattle.cdf.specs.Magic.{ofNext}
-use Rattle.cdf.specs.Word.{ofWord}
+use Rattle.cdf.proofs.Laws.Magic.{magic-ends, versionByte-ends, versionByte-is}
+use Rattle.cdf.proofs.Laws.Step.{got-ends, by-got, by-stop, into-stop, into-after}
+use Rattle.cdf.specs.Inner.Answers.{ofNext, ofWord}
 use native.Mathlib.Omega.{arith}
 use mathlib.Core.Path.{sym, ap, _∙_}
 use borrow.Author.Needs.{needs}
@@ -21,7 +21,7 @@ blank-requires : tie.Need-blank-requires
 blank-requires c κs = search needs
 
 stopped-requires : tie.Need-stopped-requires
-stopped-requires c κs = within-blank (c .blank .ensures)
+stopped-requires c κs = search needs
 
 enum-known-version-at : tie.Need-enum-known-version-at
 enum-known-version-at c = search needs
@@ -36,13 +36,13 @@ blank-requires-2 : tie.Need-blank-requires-2
 blank-requires-2 c κs = search needs
 
 stopped-requires-2 : tie.Need-stopped-requires-2
-stopped-requires-2 c κs = within-blank (c .blank2 .ensures)
+stopped-requires-2 c κs = search needs
 
 enum-known-version : tie.Need-enum-known-version
 enum-known-version c = search needs
 
 parse-open-count-requires : tie.Need-parse-open-count-requires
-parse-open-count-requires c κs = got-ends (ap ofWord (sym (c .before .version .given .1)) ∙ c .before .before .before .parse-version .ensures) (version-ends _ _ _ _)
+parse-open-count-requires c κs = got-ends (ap ofWord (sym (c .before .version .given .1)) ∙ c .before .before .before .parse-version .ensures) (versionByte-ends _ _ _ _)
 
 enum-known-k-3 : tie.Need-enum-known-k-3
 enum-known-k-3 c = search needs
@@ -51,35 +51,35 @@ blank-requires-3 : tie.Need-blank-requires-3
 blank-requires-3 c κs = search needs
 
 stopped-requires-3 : tie.Need-stopped-requires-3
-stopped-requires-3 c κs = within-blank (c .blank3 .ensures)
+stopped-requires-3 c κs = search needs
 
 enum-known-word : tie.Need-enum-known-word
 enum-known-word c = search needs
 
 cast-v : tie.Need-cast-v
-cast-v c = let e = ap ofWord (sym (c .before .before .before .before .before .version .given .1)) ∙ c .before .before .before .before .before .before .before .parse-version .ensures in omega (arith, version-is _ _ _ _ e, c .before .before .before .before .before .before .before .before .before .before .before .before .shared-slice-known .given (c .before .before .before .before .before .before .before .before .before .version-at .given .0 .0))
+cast-v c = let e = ap ofWord (sym (c .before .before .before .before .before .version .given .1)) ∙ c .before .before .before .before .before .before .before .parse-version .ensures in omega (arith, versionByte-is _ _ _ _ e, c .before .before .before .before .before .before .before .before .before .before .before .before .shared-slice-known .given (c .before .before .before .before .before .before .before .before .before .version-at .given .0 .0))
 
 started-requires : tie.Need-started-requires
 started-requires c κs = search needs
 
 parse-lists-requires : tie.Need-parse-lists-requires
-parse-lists-requires c κs = let e = started-empty _ _ _ (c .started .ensures) in (got-ends (ap ofWord (sym (c .before .before .word .given .1)) ∙ c .before .before .before .before .parse-open-count .ensures) (openCount-ends _ _ _ _), e .0, e .1, e .2)
+parse-lists-requires c κs = (got-ends (ap ofWord (sym (c .before .before .word .given .1)) ∙ c .before .before .before .before .parse-open-count .ensures) (openCount-ends _ _ _ _), started-word _ _ _ (c .started .ensures) .1)
 
 returns : tie.Need-returns
-unfolding header
-returns c = (c .stopped .ensures .0 ∙ by-stop _ (ap ofNext (sym (c .before .before .before .k .given .1)) ∙ c .before .before .before .before .before .parse-magic-word .ensures), c .stopped .ensures .1)
+unfolding header lists
+returns c = c .stopped .ensures ∙ into-stop _ (by-stop _ (ap ofNext (sym (c .before .before .before .k .given .1)) ∙ c .before .before .before .before .before .parse-magic-word .ensures))
 
 returns-2 : tie.Need-returns-2
-unfolding header
-returns-2 c = (c .stopped2 .ensures .0 ∙ by-got _ _ (ap ofNext (sym (c .before .before .before .before .before .before .before .version-at .given .1)) ∙ c .before .before .before .before .before .before .before .before .before .parse-magic-word .ensures) (by-stop _ (ap ofWord (sym (c .before .before .before .k2 .given .1)) ∙ c .before .before .before .before .before .parse-version .ensures)), c .stopped2 .ensures .1)
+unfolding header lists
+returns-2 c = c .stopped2 .ensures ∙ into-stop _ (by-got _ _ (ap ofNext (sym (c .before .before .before .before .before .before .before .version-at .given .1)) ∙ c .before .before .before .before .before .before .before .before .before .parse-magic-word .ensures) (by-stop _ (ap ofWord (sym (c .before .before .before .k2 .given .1)) ∙ c .before .before .before .before .before .parse-version .ensures)))
 
 returns-3 : tie.Need-returns-3
-unfolding header
-returns-3 c = (c .stopped3 .ensures .0 ∙ by-got _ _ (ap ofNext (sym (c .before .before .before .before .before .before .before .before .before .before .before .version-at .given .1)) ∙ c .before .before .before .before .before .before .before .before .before .before .before .before .before .parse-magic-word .ensures) (by-got _ _ (ap ofWord (sym (c .before .before .before .before .before .before .before .version .given .1)) ∙ c .before .before .before .before .before .before .before .before .before .parse-version .ensures) (by-stop _ (ap ofWord (sym (c .before .before .before .k3 .given .1)) ∙ c .before .before .before .before .before .parse-open-count .ensures))), c .stopped3 .ensures .1)
+unfolding header lists
+returns-3 c = c .stopped3 .ensures ∙ into-stop _ (by-got _ _ (ap ofNext (sym (c .before .before .before .before .before .before .before .before .before .before .before .version-at .given .1)) ∙ c .before .before .before .before .before .before .before .before .before .before .before .before .before .parse-magic-word .ensures) (by-got _ _ (ap ofWord (sym (c .before .before .before .before .before .before .before .version .given .1)) ∙ c .before .before .before .before .before .before .before .before .before .parse-version .ensures) (by-stop _ (ap ofWord (sym (c .before .before .before .k3 .given .1)) ∙ c .before .before .before .before .before .parse-open-count .ensures))))
 
 returns-4 : tie.Need-returns-4
-unfolding header
-returns-4 c = (by-got _ _ (ap ofNext (sym (c .before .before .before .before .before .before .before .before .before .before .before .version-at .given .1)) ∙ c .before .before .before .before .before .before .before .before .before .before .before .before .before .parse-magic-word .ensures) (by-got _ _ (ap ofWord (sym (c .before .before .before .before .before .before .before .version .given .1)) ∙ c .before .before .before .before .before .before .before .before .before .parse-version .ensures) (by-got _ _ (ap ofWord (sym (c .before .before .before .word .given .1)) ∙ c .before .before .before .before .before .parse-open-count .ensures) (rw (← c .before .started .ensures) (c .parse-lists .ensures .0)))), c .parse-lists .ensures .1)
+unfolding header lists
+returns-4 c = into-after _ _ _ (ap ofNext (sym (c .before .before .before .before .before .before .before .before .before .before .before .version-at .given .1)) ∙ c .before .before .before .before .before .before .before .before .before .before .before .before .before .parse-magic-word .ensures) (into-after _ _ _ (ap ofWord (sym (c .before .before .before .before .before .before .before .version .given .1)) ∙ c .before .before .before .before .before .before .before .before .before .parse-version .ensures) (into-after _ _ _ (ap ofWord (sym (c .before .before .before .word .given .1)) ∙ c .before .before .before .before .before .parse-open-count .ensures) (rw (← started-word _ _ _ (c .before .started .ensures) .0) (c .parse-lists .ensures))))
 
 pub parse-header-spec : {M : Type 1} → statement M
 parse-header-spec =

@@ -1,7 +1,7 @@
 use Rattle.header.proofs.Laws.Header.{answer-stop, answer-got, judged-model, judged-sizes, judged-count, judged-ends, judged-got}
-use Rattle.header.proofs.Laws.Model.{model-has-ids}
-use Rattle.header.proofs.Laws.Count.{ends-by}
-use Rattle.header.specs.Count.{ofCounted}
+use Rattle.model.proofs.Laws.Model.{model-has-ids}
+use Rattle.sizes.proofs.Laws.Count.{ends-by}
+use Rattle.sizes.specs.Inner.Sizes.{ofCounted}
 use borrow.Author.Tests.{not-true, not-false}
 use mathlib.Core.Path.{sym, ap, _∙_}
 use borrow.Author.Needs.{needs}

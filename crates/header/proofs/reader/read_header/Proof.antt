@@ -1,5 +1,6 @@
 use Rattle.header.proofs.Laws.Header.{read-longer, read-larger, read-stops, read-judged}
-use Rattle.grammar.specs.Dims.{ofTables}
+use Rattle.grammar.proofs.Laws.Within.{read-within}
+use Rattle.grammar.specs.Inner.Answers.{ofTables}
 use Rattle.cdf.specs.declared.step.Next.{Next}
 use mathlib.Core.Path.{sym, ap, _∙_}
 use borrow.Author.Needs.{needs}
@@ -31,13 +32,13 @@ enum-known-next-2 : tie.Need-enum-known-next-2
 enum-known-next-2 c = search needs
 
 judged-requires : tie.Need-judged-requires
-judged-requires c κs = c .before .before .before .before .parse-header .ensures .1
+judged-requires c κs = let p = c .before .before .before .before .parse-header in read-within _ _ _ (ap (λ (x : Next). ofTables x (p .result .tables)) (sym (c .before .next2 .given .1)) ∙ p .ensures)
 
 returns-3 : tie.Need-returns-3
-returns-3 c = let p = c .before .before .before .before .before .parse-header in read-stops _ _ _ (c .before .before .before .before .before .before .before .if1 .left) (c .before .before .before .before .before .before .if2 .left) (c .refused3 .ensures) (ap (λ (x : Next). ofTables x (p .result .tables)) (sym (c .before .before .next .given .1)) ∙ p .ensures .0)
+returns-3 c = let p = c .before .before .before .before .before .parse-header in read-stops _ _ _ (c .before .before .before .before .before .before .before .if1 .left) (c .before .before .before .before .before .before .if2 .left) (c .refused3 .ensures) (ap (λ (x : Next). ofTables x (p .result .tables)) (sym (c .before .before .next .given .1)) ∙ p .ensures)
 
 returns-4 : tie.Need-returns-4
-returns-4 c = let p = c .before .before .before .before .before .parse-header in read-judged _ _ _ (c .before .before .before .before .before .before .before .if1 .left) (c .before .before .before .before .before .before .if2 .left) (ap (λ (x : Next). ofTables x (p .result .tables)) (sym (c .before .before .next2 .given .1)) ∙ p .ensures .0) (c .judged .ensures)
+returns-4 c = let p = c .before .before .before .before .before .parse-header in read-judged _ _ _ (c .before .before .before .before .before .before .before .if1 .left) (c .before .before .before .before .before .before .if2 .left) (ap (λ (x : Next). ofTables x (p .result .tables)) (sym (c .before .before .next2 .given .1)) ∙ p .ensures) (c .judged .ensures)
 
 pub read-header-spec : {M : Type 1} → statement M
 read-header-spec =

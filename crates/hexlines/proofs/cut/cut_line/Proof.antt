@@ -6,7 +6,8 @@ use mathlib.Core.List.{_++_}
 use lib.ListN.{length, take, drop, getD}
 use lib.Seq.{length-take-le}
 use Prim.Native.Nat.{ℕ, _+_, _-_, _≤_, _<_}
-use Rattle.hexlines.specs.Cut.{kept, newline}
+use Rattle.hexlines.specs.Inner.Cut.{kept}
+use Rattle.hexlines.specs.Lines.{newline}
 use Rattle.hexlines.proofs.Laws.Cut.{cut-none, cut-more, cut-closed, cut-open}
 use Rattle.hexlines.proofs.cut.cut_line.Statement.{statement}
 use Rattle.hexlines.proofs.cut.cut_line.Tie as tie

@@ -1,17 +1,18 @@
 use borrow.Author.Needs.{needs}
 use native.Mathlib.Omega.{arith}
-use Rattle.hexlines.proofs.Laws.Digit.{under, over, decimal-digit, upper-digit, lower-digit, no-digit}
+use mathlib.Core.Logic.{inl, inr}
+use Rattle.hexlines.proofs.Laws.Digit.{decimal-digit, upper-digit, lower-digit, no-digit}
 use Rattle.hexlines.proofs.digit.worth.Statement.{statement}
 use Rattle.hexlines.proofs.digit.worth.Tie as tie
 
 returns : tie.Need-returns
-returns c = no-digit _ (under _ _ _ (omega arith)) (under _ _ _ (omega arith)) (under _ _ _ (omega arith))
+returns c = no-digit _ (inl (omega arith)) (inl (omega arith)) (inl (omega arith))
 
 returns-2 : tie.Need-returns-2
 returns-2 c = decimal-digit _ (omega arith) (omega arith)
 
 returns-3 : tie.Need-returns-3
-returns-3 c = no-digit _ (over _ _ _ (omega arith)) (under _ _ _ (omega arith)) (under _ _ _ (omega arith))
+returns-3 c = no-digit _ (inr (omega arith)) (inl (omega arith)) (inl (omega arith))
 
 add-result : tie.Need-add-result
 add-result c = search needs
@@ -20,7 +21,7 @@ returns-4 : tie.Need-returns-4
 returns-4 c = upper-digit _ (omega arith) (omega arith)
 
 returns-5 : tie.Need-returns-5
-returns-5 c = no-digit _ (over _ _ _ (omega arith)) (over _ _ _ (omega arith)) (under _ _ _ (omega arith))
+returns-5 c = no-digit _ (inr (omega arith)) (inr (omega arith)) (inl (omega arith))
 
 add-result-2 : tie.Need-add-result-2
 add-result-2 c = search needs
@@ -29,7 +30,7 @@ returns-6 : tie.Need-returns-6
 returns-6 c = lower-digit _ (omega arith) (omega arith)
 
 returns-7 : tie.Need-returns-7
-returns-7 c = no-digit _ (over _ _ _ (omega arith)) (over _ _ _ (omega arith)) (over _ _ _ (omega arith))
+returns-7 c = no-digit _ (inr (omega arith)) (inr (omega arith)) (inr (omega arith))
 
 pub worth-spec : {M : Type 1} → statement M
 worth-spec =

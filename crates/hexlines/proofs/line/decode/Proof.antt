@@ -4,13 +4,14 @@ use borrow.Author.Count.{below-none}
 use mathlib.Core.Path.{_≡_, subst}
 use lib.ListN.{length, take, getD}
 use Prim.Native.Nat.{ℕ, _+_, _-_, _*_, _≤_, _<_}
-use Rattle.hexlines.specs.Digit.{worth, spelled}
+use Rattle.hexlines.specs.Digit.{worth, pair}
+use Rattle.bigendian.specs.Lists.{tab}
 use Rattle.hexlines.proofs.Laws.Digit.{digits-all, digits-not, spelled-none, spelled-more, two-more, exactly}
 use Rattle.hexlines.proofs.line.decode.Statement.{statement}
 use Rattle.hexlines.proofs.line.decode.Tie as tie
 
 abbrev Inv-loop : tie.InvT-loop
-Inv-loop text n file₀ i₀ file i = (i ≤ n) × (length file ≡ length file₀) × ((k : ℕ) → k < i * 2 → worth (getD text k 0) < 16) × (take i file ≡ spelled i text)
+Inv-loop text n file₀ i₀ file i = (i ≤ n) × (length file ≡ length file₀) × ((k : ℕ) → k < i * 2 → worth (getD text k 0) < 16) × (take i file ≡ tab (pair text) i)
 
 abbrev μ-loop : tie.MeasureT-loop
 μ-loop text n file₀ i₀ file i = n - i

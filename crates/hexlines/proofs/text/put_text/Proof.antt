@@ -3,7 +3,7 @@ use native.Mathlib.Omega.{arith}
 use mathlib.Core.Path.{_≡_, refl}
 use lib.ListN.{length, take}
 use Prim.Native.Nat.{_+_, _-_, _≤_}
-use Rattle.hexlines.specs.Text.{Grown}
+use Rattle.hexlines.specs.Inner.Grown.{Grown}
 use Rattle.hexlines.proofs.Laws.Text.{grown-none, grown-more, grown-all}
 use Rattle.hexlines.proofs.text.put_text.Statement.{statement}
 use Rattle.hexlines.proofs.text.put_text.Tie as tie

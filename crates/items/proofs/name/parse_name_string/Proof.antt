@@ -1,8 +1,7 @@
 use Rattle.items.proofs.Laws.Name.{name-count-stops, name-bytes-stop, name-padding-stops, name-got, nameBytes-ends}
-use Rattle.cdf.proofs.Laws.Word.{count-ends}
+use Rattle.cdf.proofs.Laws.Word.{nelems-ends}
 use Rattle.cdf.proofs.Laws.Step.{got-ends}
-use Rattle.cdf.specs.Magic.{ofNext}
-use Rattle.cdf.specs.Word.{ofWord}
+use Rattle.cdf.specs.Inner.Answers.{ofNext, ofWord}
 use mathlib.Core.Path.{sym, ap, _∙_}
 use borrow.Author.Needs.{needs}
 use Rattle.items.proofs.name.parse_name_string.Statement.{statement}
@@ -18,7 +17,7 @@ enum-known-count : tie.Need-enum-known-count
 enum-known-count c = search needs
 
 parse-name-bytes-requires : tie.Need-parse-name-bytes-requires
-parse-name-bytes-requires c κs = got-ends (ap ofWord (sym (c .before .count .given .1)) ∙ c .before .before .before .parse-count .ensures) (count-ends _ _ _ _ _)
+parse-name-bytes-requires c κs = got-ends (ap ofWord (sym (c .before .count .given .1)) ∙ c .before .before .before .parse-count .ensures) (nelems-ends _ _ _ _ _)
 
 enum-known-k-2 : tie.Need-enum-known-k-2
 enum-known-k-2 c = search needs

@@ -1,5 +1,5 @@
 use Rattle.items.proofs.Laws.Types.{type-stop, type-got, type-low, type-high}
-use Rattle.cdf.specs.Word.{ofWord}
+use Rattle.cdf.specs.Inner.Answers.{ofWord}
 use mathlib.Core.Path.{sym, ap, _∙_}
 use borrow.Author.Needs.{needs}
 use Rattle.items.proofs.types.parse_data_type.Statement.{statement}

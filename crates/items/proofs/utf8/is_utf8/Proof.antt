@@ -1,7 +1,7 @@
 use borrow.Author.Needs.{needs}
 use Rattle.items.proofs.Laws.Utf8.{text-starts, text-more, text-bad, text-ends}
 use Rattle.items.specs.declared.utf8.Scanned.the-variants.{Good}
-use Rattle.items.specs.Utf8.{utf8, whole, scan}
+use Rattle.items.specs.Utf8.{utf8, scan}
 use lib.ListN.{length, drop}
 use native.Mathlib.Omega.{arith}
 use mathlib.Core.Path.{_≡_, sym, _∙_}
@@ -10,7 +10,7 @@ use Rattle.items.proofs.utf8.is_utf8.Statement.{statement}
 use Rattle.items.proofs.utf8.is_utf8.Tie as tie
 
 abbrev Inv-loop : tie.InvT-loop
-Inv-loop text d₀ i₀ d i = (i ≤ length text) × (utf8 text ≡ whole (scan (drop i text) (Good d)))
+Inv-loop text d₀ i₀ d i = (i ≤ length text) × (utf8 text ≡ scan (drop i text) (Good d))
 
 abbrev μ-loop : tie.MeasureT-loop
 μ-loop text d₀ i₀ d i = length text - i

@@ -1,5 +1,5 @@
 use mathlib.Core.Path.{sym, ap, _∙_}
-use Rattle.reads.specs.Stretch.{ofSpot}
+use Rattle.reads.specs.Inner.Spot.{ofSpot}
 use Rattle.reads.proofs.Laws.Element.{spot-in, element-stop, element-got}
 use borrow.Author.Needs.{needs}
 use Rattle.reads.proofs.element.element_of.Statement.{statement}
@@ -21,7 +21,9 @@ returns : tie.Need-returns
 returns c = element-stop _ _ _ _ _ (ap ofSpot (sym (c .before .k .given .1)) ∙ c .before .before .before .element-spot .ensures)
 
 returns-2 : tie.Need-returns-2
-returns-2 c = element-got _ _ _ _ _ (ap ofSpot (sym (c .before .before .at .given .1)) ∙ c .before .before .before .before .element-spot .ensures) (c .before .before .before .before .before .before .pre .size) (c .value-at .ensures)
+returns-2 c =
+    let p = c .before .before .before .before .before .before .pre in
+    element-got _ _ _ _ _ (ap ofSpot (sym (c .before .before .at .given .1)) ∙ c .before .before .before .before .element-spot .ensures) (p .size) (p .low) (p .high) (c .value-at .ensures)
 
 pub element-of-spec : {M : Type 1} → statement M
 element-of-spec =

@@ -1,7 +1,7 @@
 use mathlib.Core.Path.{sym, ap, _∙_}
 use Rattle.reads.specs.Element.{elementRead}
-use Rattle.reads.specs.Variable.{ofSought}
-use Rattle.reads.proofs.Laws.Stretch.{found}
+use Rattle.reads.specs.Inner.Spot.{ofSought}
+use Rattle.reads.proofs.Laws.Bounded.{found}
 use Rattle.reads.proofs.Laws.Element.{answer-stop, answer-got}
 use borrow.Author.Needs.{needs}
 use Rattle.reads.proofs.element.read_element.Statement.{statement}

@@ -1,7 +1,7 @@
 use borrow.Author.Tests.{not-true, not-false}
 use mathlib.Core.Path.{sym, _∙_}
 use native.Mathlib.Omega.{arith}
-use Rattle.reads.proofs.Laws.Values.{element-in, held, spot-record, spot-element, spot-window, spot-at}
+use Rattle.reads.proofs.Laws.Reads.{element-in, held, spot-record, spot-element, spot-window, spot-at}
 use borrow.Author.Needs.{needs}
 use Rattle.reads.proofs.place.element_spot.Statement.{statement}
 use Rattle.reads.proofs.place.element_spot.Tie as tie

@@ -1,5 +1,5 @@
 use native.Mathlib.Omega.{arith}
-use Rattle.reads.proofs.Laws.Values.{holds-before, holds-past, holds-by}
+use Rattle.reads.proofs.Laws.Reads.{holds-before, holds-past, holds-by}
 use Rattle.reads.proofs.place.holds.Statement.{statement}
 use Rattle.reads.proofs.place.holds.Tie as tie
 

@@ -1,7 +1,7 @@
 use Rattle.items.specs.Types.{sizeOf}
 use mathlib.Core.Bool.{Bool, cond}
 use mathlib.Core.Path.{ap, _∙_}
-use Rattle.reads.proofs.Laws.Variable.{described}
+use Rattle.reads.proofs.Laws.Sought.{described}
 use borrow.Author.Needs.{needs}
 use Rattle.reads.proofs.variable.described.Statement.{statement}
 use Rattle.reads.proofs.variable.described.Tie as tie

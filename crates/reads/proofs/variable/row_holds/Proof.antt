@@ -1,6 +1,6 @@
 use borrow.Author.Needs.{needs}
 use native.Mathlib.Omega.{arith}
-use Rattle.reads.proofs.Laws.Variable.{row-rank, row-low, row-high}
+use Rattle.reads.proofs.Laws.Sought.{row-rank, row-low, row-high}
 use Rattle.reads.proofs.variable.row_holds.Statement.{statement}
 use Rattle.reads.proofs.variable.row_holds.Tie as tie
 

@@ -1,8 +1,8 @@
 use borrow.Author.Tests.{not-true, not-false}
 use mathlib.Core.Path.{sym, _∙_}
 use native.Mathlib.Omega.{arith}
-use Rattle.header.proofs.Laws.Records.{ids-below}
-use Rattle.reads.proofs.Laws.Variable.{tables-parts, chunk-small, sought-tables, sought-none, sought-got}
+use Rattle.sizes.proofs.Laws.Records.{ids-below}
+use Rattle.reads.proofs.Laws.Sought.{tables-parts, chunk-small, sought-tables, sought-none, sought-got}
 use borrow.Author.Needs.{needs}
 use Rattle.reads.proofs.variable.seek.Statement.{statement}
 use Rattle.reads.proofs.variable.seek.Tie as tie

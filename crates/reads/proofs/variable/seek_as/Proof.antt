@@ -1,6 +1,6 @@
 use mathlib.Core.Path.{sym, ap, _∙_}
-use Rattle.reads.specs.Variable.{ofSought}
-use Rattle.reads.proofs.Laws.Variable.{typed-other, typed-stop, typed-got}
+use Rattle.reads.specs.Inner.Spot.{ofSought}
+use Rattle.reads.proofs.Laws.Sought.{typed-other, typed-stop, typed-got}
 use borrow.Author.Needs.{needs}
 use Rattle.reads.proofs.variable.seek_as.Statement.{statement}
 use Rattle.reads.proofs.variable.seek_as.Tie as tie

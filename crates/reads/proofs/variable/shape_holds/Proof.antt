@@ -6,8 +6,8 @@ use borrow.Author.Needs.{needs}
 use borrow.Author.Tests.{not-true, not-false}
 use borrow.Author.Count.{below-none, below-more}
 use Rattle.grammar.specs.Tables.{varAt}
-use Rattle.reads.specs.Variable.{rowHolds}
-use Rattle.reads.proofs.Laws.Variable.{shape-dims, shape-vars, shape-row, shape-all}
+use Rattle.reads.specs.Inner.Spot.{rowHolds}
+use Rattle.reads.proofs.Laws.Sought.{shape-dims, shape-vars, shape-row, shape-all}
 use Rattle.reads.proofs.variable.shape_holds.Statement.{statement}
 use Rattle.reads.proofs.variable.shape_holds.Tie as tie
 

@@ -1,9 +1,9 @@
 use borrow.Author.Tests.{not-true, not-false}
 use mathlib.Core.Path.{sym, ap, _∙_}
-use Rattle.header.specs.declared.records.Sizes.{Sizes}
-use Rattle.header.proofs.Laws.Count.{ends-by}
-use Rattle.header.proofs.Laws.Records.{never}
-use Rattle.reads.proofs.Laws.Variable.{shaped, tables-shape, tables-ids, tables-sizes, tables-ends}
+use Rattle.sizes.specs.declared.records.Sizes.{Sizes}
+use Rattle.sizes.proofs.Laws.Count.{ends-by}
+use Rattle.sizes.proofs.Laws.Records.{never}
+use Rattle.reads.proofs.Laws.Sought.{shaped, tables-shape, tables-ids, tables-sizes, tables-ends}
 use borrow.Author.Needs.{needs}
 use Rattle.reads.proofs.variable.tables_hold.Statement.{statement}
 use Rattle.reads.proofs.variable.tables_hold.Tie as tie

@@ -1,8 +1,8 @@
 use mathlib.Core.Path.{sym, ap, _∙_}
 use native.Mathlib.Omega.{arith}
 use denote.Ref.{now}
-use Rattle.decode.specs.Values.{float}
-use Rattle.reads.specs.Stretch.{ofStretched}
+use Rattle.decode.specs.Decoded.{float}
+use Rattle.records.specs.Inner.Stretch.{ofStretched}
 use Rattle.records.proofs.Laws.Filled.{whole-of-fits, decoder-asks, whole-stop, whole-got}
 use borrow.Author.Needs.{needs}
 use Rattle.records.proofs.whole.read_whole_f32.Statement.{statement}

@@ -1,8 +1,8 @@
 use mathlib.Core.Path.{sym, ap, _∙_}
 use native.Mathlib.Omega.{arith}
 use denote.Ref.{now}
-use Rattle.decode.specs.Values.{number}
-use Rattle.reads.specs.Stretch.{ofStretched}
+use Rattle.decode.specs.Decoded.{raw}
+use Rattle.records.specs.Inner.Stretch.{ofStretched}
 use Rattle.records.proofs.Laws.Filled.{whole-of-fits, decoder-asks, whole-stop, whole-got}
 use borrow.Author.Needs.{needs}
 use Rattle.records.proofs.whole.read_whole_f64_bits.Statement.{statement}
@@ -30,13 +30,13 @@ records-u64-requires : tie.Need-records-u64-requires
 records-u64-requires c κs = decoder-asks (now (c .before .before .before .before .before .before .before .before .args .s)) (whole-of-fits 6 _ _ _ _ _ (ap ofStretched (sym (c .before .before .before .x .given .1)) ∙ c .before .before .before .before .before .whole-of .ensures))
 
 returns : tie.Need-returns
-returns c = whole-stop number 6 _ _ _ _ _ (ap ofStretched (sym (c .before .k .given .1)) ∙ c .before .before .before .whole-of .ensures)
+returns c = whole-stop raw 6 _ _ _ _ _ (ap ofStretched (sym (c .before .k .given .1)) ∙ c .before .before .before .whole-of .ensures)
 
 same-length : tie.Need-same-length
 same-length c = search needs
 
 returns-2 : tie.Need-returns-2
-returns-2 c = whole-got number 6 _ _ _ _ _ (ap ofStretched (sym (c .before .before .before .before .before .before .x .given .1)) ∙ c .before .before .before .before .before .before .before .before .whole-of .ensures) (c .before .before .records-u64 .ensures)
+returns-2 c = whole-got raw 6 _ _ _ _ _ (ap ofStretched (sym (c .before .before .before .before .before .before .x .given .1)) ∙ c .before .before .before .before .before .before .before .before .whole-of .ensures) (c .before .before .records-u64 .ensures)
 
 pub read-whole-f64-bits-spec : {M : Type 1} → statement M
 read-whole-f64-bits-spec =

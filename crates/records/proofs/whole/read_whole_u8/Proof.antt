@@ -1,8 +1,8 @@
 use mathlib.Core.Path.{sym, ap, _∙_}
 use native.Mathlib.Omega.{arith}
 use denote.Ref.{now}
-use Rattle.decode.specs.Values.{number}
-use Rattle.reads.specs.Stretch.{ofStretched}
+use Rattle.decode.specs.Decoded.{raw}
+use Rattle.records.specs.Inner.Stretch.{ofStretched}
 use Rattle.records.proofs.Laws.Filled.{whole-of-fits, byte-decoder-asks, whole-stop, whole-got}
 use borrow.Author.Needs.{needs}
 use Rattle.records.proofs.whole.read_whole_u8.Statement.{statement}
@@ -30,13 +30,13 @@ records-u8-requires : tie.Need-records-u8-requires
 records-u8-requires c κs = byte-decoder-asks (now (c .before .before .before .before .before .before .before .before .args .s)) (whole-of-fits 2 _ _ _ _ _ (ap ofStretched (sym (c .before .before .before .x .given .1)) ∙ c .before .before .before .before .before .whole-of .ensures))
 
 returns : tie.Need-returns
-returns c = whole-stop number 2 _ _ _ _ _ (ap ofStretched (sym (c .before .k .given .1)) ∙ c .before .before .before .whole-of .ensures)
+returns c = whole-stop raw 2 _ _ _ _ _ (ap ofStretched (sym (c .before .k .given .1)) ∙ c .before .before .before .whole-of .ensures)
 
 same-length : tie.Need-same-length
 same-length c = search needs
 
 returns-2 : tie.Need-returns-2
-returns-2 c = whole-got number 2 _ _ _ _ _ (ap ofStretched (sym (c .before .before .before .before .before .before .x .given .1)) ∙ c .before .before .before .before .before .before .before .before .whole-of .ensures) (c .before .before .records-u8 .ensures)
+returns-2 c = whole-got raw 2 _ _ _ _ _ (ap ofStretched (sym (c .before .before .before .before .before .before .x .given .1)) ∙ c .before .before .before .before .before .before .before .before .whole-of .ensures) (c .before .before .records-u8 .ensures)
 
 pub read-whole-u8-spec : {M : Type 1} → statement M
 read-whole-u8-spec =

@@ -2,9 +2,9 @@ use Prim.Native.Nat.{_-_, _≤_}
 use mathlib.Core.Path.{_≡_}
 use native.Mathlib.Omega.{arith}
 use borrow.Author.Needs.{needs}
-use Rattle.reads.specs.Values.{numberOf}
-use Rattle.values.specs.Values.{elementOfFile}
-use Rattle.values.proofs.Laws.Values.{header-is, element-refused, element-read}
+use Rattle.cdf.specs.Step.{numberOf}
+use Rattle.values.specs.OfFile.{elementOfFile}
+use Rattle.values.proofs.Laws.OfFile.{header-is, element-refused, element-read}
 use Rattle.values.proofs.values.fungal_element_answer.Statement.{statement}
 use Rattle.values.proofs.values.fungal_element_answer.Tie as tie
 
@@ -21,7 +21,7 @@ read-header-requires : tie.Need-read-header-requires Inv-loop μ-loop
 read-header-requires c κs = search needs
 
 returns : tie.Need-returns Inv-loop μ-loop
-returns c = element-refused _ (header-is _ (c .before .before .read-header .ensures) (c .before .before .before .both .ensures)) _ _ _ (c .if1 .taken)
+returns c = element-refused _ (header-is _ _ (c .before .before .read-header .ensures) (c .before .before .before .both .ensures)) _ _ _ (c .if1 .taken)
 
 read-element-requires : tie.Need-read-element-requires Inv-loop μ-loop
 read-element-requires c κs = search needs
@@ -30,7 +30,7 @@ number-in-requires : tie.Need-number-in-requires Inv-loop μ-loop
 number-in-requires c κs = search needs
 
 loop-holds : tie.Need-loop-holds Inv-loop μ-loop
-loop-holds c = (omega arith, element-read _ (header-is _ (c .before .before .before .before .before .read-header .ensures) (c .before .before .before .before .before .before .both .ensures)) _ _ _ (c .before .before .before .if1 .left) (c .before .read-element .ensures) (c .number-in .ensures))
+loop-holds c = (omega arith, element-read _ (header-is _ _ (c .before .before .before .before .before .read-header .ensures) (c .before .before .before .before .before .before .both .ensures)) _ _ _ (c .before .read-element .result) (c .before .before .before .if1 .left) (c .before .read-element .ensures) (c .number-in .ensures))
 
 read-element-requires-2 : tie.Need-read-element-requires-2 Inv-loop μ-loop
 read-element-requires-2 c κs = search needs
@@ -45,7 +45,7 @@ loop-less : tie.Need-loop-less Inv-loop μ-loop
 loop-less c = search needs
 
 loop-again : tie.Need-loop-again Inv-loop μ-loop
-loop-again c = (omega arith, element-read _ (header-is _ (c .before .before .before .before .before .before .before .before .before .read-header .ensures) (c .before .before .before .before .before .before .before .before .before .before .both .ensures)) _ _ _ (c .before .before .before .before .before .before .before .if1 .left) (c .before .read-element2 .ensures) (c .number-in2 .ensures))
+loop-again c = (omega arith, element-read _ (header-is _ _ (c .before .before .before .before .before .before .before .before .before .read-header .ensures) (c .before .before .before .before .before .before .before .before .before .before .both .ensures)) _ _ _ (c .before .read-element2 .result) (c .before .before .before .before .before .before .before .if1 .left) (c .before .read-element2 .ensures) (c .number-in2 .ensures))
 
 returns-2 : tie.Need-returns-2 Inv-loop μ-loop
 returns-2 c = c .before .loop .inv .1

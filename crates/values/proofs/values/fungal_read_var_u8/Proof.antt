@@ -1,5 +1,5 @@
-use Rattle.decode.specs.Values.{number}
-use Rattle.values.proofs.Laws.Values.{header-is, whole-refused, whole-read}
+use Rattle.decode.specs.Decoded.{raw}
+use Rattle.values.proofs.Laws.OfFile.{header-is, whole-refused, whole-read}
 use borrow.Author.Needs.{needs}
 use Rattle.values.proofs.values.fungal_read_var_u8.Statement.{statement}
 use Rattle.values.proofs.values.fungal_read_var_u8.Tie as tie
@@ -11,7 +11,7 @@ read-header-requires : tie.Need-read-header-requires
 read-header-requires c κs = search needs
 
 returns : tie.Need-returns
-returns c = whole-refused _ (header-is _ (c .before .before .read-header .ensures) (c .before .before .before .both .ensures)) number 2 _ _ (c .if1 .taken)
+returns c = whole-refused _ (header-is _ _ (c .before .before .read-header .ensures) (c .before .before .before .both .ensures)) raw 2 _ _ (c .if1 .taken)
 
 read-whole-u8-requires : tie.Need-read-whole-u8-requires
 read-whole-u8-requires c κs = search needs
@@ -20,7 +20,7 @@ same-length : tie.Need-same-length
 same-length c = search needs
 
 returns-2 : tie.Need-returns-2
-returns-2 c = whole-read _ (header-is _ (c .before .before .before .before .before .before .read-header .ensures) (c .before .before .before .before .before .before .before .both .ensures)) number 2 _ _ (c .before .before .before .before .if1 .left) (c .before .before .read-whole-u8 .ensures)
+returns-2 c = whole-read _ (header-is _ _ (c .before .before .before .before .before .before .read-header .ensures) (c .before .before .before .before .before .before .before .both .ensures)) raw 2 _ _ (c .before .before .before .before .if1 .left) (c .before .before .read-whole-u8 .ensures)
 
 pub fungal-read-var-u8-spec : {M : Type 1} → statement M
 fungal-read-var-u8-spec =

@@ -1,0 +1,4 @@
+-- Words of inner contracts alone: no entry's contract and no demand reaches them.
+pub mod Parts
+pub mod Answers
+pub mod Within

@@ -1,0 +1,49 @@
+-- What reads answer (01, Records; Answer numbers: 18, 19, 20 and 22). A window is bytes s that start at the file's position `start`.
+use Prim.Native.Nat.{ℕ, _+_, _-_, _*_}
+use mathlib.Core.Bool.{Bool, _&&_, _||_}
+use mathlib.Core.List.{List, _++_}
+use lib.ListN.{length, drop}
+use lib.Dec.{ltb, leb, eqb}
+use Rattle.bigendian.specs.Number.{be}
+use Rattle.bigendian.specs.Lists.{tab, grid}
+use Rattle.cdf.specs.Step.{Step, got, bind, need}
+use Rattle.grammar.specs.declared.tables.Tables.{Tables}
+use Rattle.reads.specs.Sought.{soughtAs}
+use Rattle.reads.specs.declared.variable.Spread.{Spread}
+
+-- "Chunk of record r starts at begin + r × record size."
+abbrev pub recordAt : Spread → ℕ → ℕ
+recordAt v r = v .begin + r * v .step
+
+-- and element e of it where e elements have passed
+abbrev pub elementAt : Spread → ℕ → ℕ → ℕ
+elementAt v r e = recordAt v r + e * v .width
+
+-- the bits of element e of record r of a variable: the number that its bytes spell. Asked only where the window holds them, so not before `start`
+abbrev pub bits : Spread → List ℕ → ℕ → ℕ → ℕ → ℕ
+bits v s start r e = be (v .width) s (elementAt v r e - start)
+
+-- 01, number 20: a window of `have` bytes holds the n bytes from a position of the file
+unfoldable pub holds : ℕ → ℕ → ℕ → ℕ → Bool
+holds have start at n = leb start at && leb (at + n) (start + have)
+
+-- a record read of the type `code`, whose bits stand for the values F: 23, 16, 17, 18, 20, 22. "Record reads fill from element 0."
+unfoldable pub recordRead : {A : Type 0} → (ℕ → A) → ℕ → Tables → List ℕ → ℕ → ℕ → ℕ → List A → Step (List A)
+recordRead F code t s start i r out =
+    bind (soughtAs code t i) (λ v _.
+    need (ltb r (v .records)) 18 0 (
+    need (holds (length s) start (recordAt v r) (v .chunk * v .width)) 20 0 (
+    need (leb (v .chunk) (length out)) 22 0 (
+    got (tab (λ e. F (bits v s start r e)) (v .chunk) ++ drop (v .chunk) out) 0))))
+
+-- the value bytes of a variable's records, from the first to the last, without the last one's padding. Asked only where there are records
+abbrev pub wholeBytes : Spread → ℕ
+wholeBytes v = (v .records - 1) * v .step + v .chunk * v .width
+
+-- a whole-variable read: 23, 16, 17, 20, 22. "put record k's values at element k × chunk of the output; what lies after the last stays"
+unfoldable pub wholeRead : {A : Type 0} → (ℕ → A) → ℕ → Tables → List ℕ → ℕ → ℕ → List A → Step (List A)
+wholeRead F code t s start i out =
+    bind (soughtAs code t i) (λ v _.
+    need (eqb (v .records) 0 || holds (length s) start (v .begin) (wholeBytes v)) 20 0 (
+    need (leb (v .records * v .chunk) (length out)) 22 0 (
+    got (grid (λ k e. F (bits v s start k e)) (v .chunk) (v .records) ++ drop (v .records * v .chunk) out) 0)))

@@ -1,0 +1,3 @@
+-- The laws of the definitions in specs/, under the same file names.
+pub mod Records
+pub mod Count
