@@ -49,8 +49,8 @@ fn show(name: &str, entry: impl FnOnce() + Send + 'static) {
 }
 
 fn header(bytes: Vec<u8>) {
-    let mut numbers = [0u64; 8];
-    unsafe { fungal_read_header(bytes.as_ptr(), bytes.len(), bytes.len() as u64, numbers.as_mut_ptr(), 8) };
+    let mut numbers = [0u64; 7];
+    unsafe { fungal_read_header(bytes.as_ptr(), bytes.len(), bytes.len() as u64, numbers.as_mut_ptr(), 7) };
 }
 
 fn main() {
