@@ -7,3 +7,4 @@ pub mod Versions
 pub mod RecordCount
 pub mod ValueReads
 pub mod Laid
+pub mod Derived

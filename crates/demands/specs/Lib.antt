@@ -5,3 +5,4 @@ pub mod Versions
 pub mod RecordCount
 pub mod ValueReads
 pub mod Laid
+pub mod Derived

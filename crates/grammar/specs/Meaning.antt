@@ -32,15 +32,19 @@ pub record Variable : Type 0 where
   pub vsize : ℕ
   pub begin : ℕ
 
--- the whole of a header, with its record count
-pub record Meaning : Type 0 where
+-- what the bytes of a header say (BNF: header)
+pub record Contents : Type 0 where
   pub version : ℕ
   pub word : ℕ
-  pub count : ℕ
-  pub size : ℕ
   pub dimensions : List Dimension
   pub globals : List Attribute
   pub variables : List Variable
+
+-- with the record count and the file's size
+pub record Meaning : Type 0 where
+  pub contents : Contents
+  pub count : ℕ
+  pub size : ℕ
 
 module _ (s : List ℕ) where
   -- a dimension by the bytes s
@@ -69,18 +73,20 @@ module _ (s : List ℕ) where
         begin = v .begin;
       }
 
-  -- 01, What is taken from the crate: version, count word, count and file size, and the three lists
-  unfoldable pub meaning : Tree → ℕ → Meaning
-  meaning h n =
+  -- what a tree says of the bytes s
+  unfoldable pub contents : Tree → Contents
+  contents h =
       record {
         version = h .version;
         word = h .word;
-        count = n;
-        size = h .size;
         dimensions = map dimension (h .dims);
         globals = map attribute (h .globals);
         variables = map variable (h .vars);
       }
+
+  -- 01, What is taken from the crate: version, count word, count and file size, and the three lists
+  abbrev pub meaning : Tree → ℕ → Meaning
+  meaning h n = record { contents = contents h; count = n; size = h .size }
 
 -- the variable of a row, whose attributes stand among the rows xs
 abbrev pub itemOf : List Attr → Var → VarItem

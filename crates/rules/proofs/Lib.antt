@@ -1,0 +1,2 @@
+-- Laws of the rules, and what the reader's steps have to do with them.
+pub mod Laws
