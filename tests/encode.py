@@ -1,47 +1,9 @@
-"""Bytes of a header from tables. Nothing is checked: the cases want wrong headers too."""
+"""Headers from tables in a short form, and their parts. Nothing is checked: the cases want wrong headers too."""
 
-from model import SIZES, Attr, Dim, Tables, Var
-
-
-def word(n):
-    return (n % 2**32).to_bytes(4, "big")
-
-
-def pad(data):
-    return data + bytes(-len(data) % 4)
-
-
-def name(text):
-    return word(len(text)) + pad(text)
-
-
-def items(tag, rows):
-    return word(tag) + word(len(rows)) + b"".join(rows) if rows else bytes(8)
-
-
-def dim(row):
-    return name(row.name) + word(row.length)
-
-
-def attr(row):
-    return name(row.name) + word(row.type) + word(len(row.values) // SIZES.get(row.type, 1)) + pad(row.values)
-
-
-def var(row, version):
-    width = 4 if version == 1 else 8
-    ids = word(len(row.ids)) + b"".join(map(word, row.ids))
-    attrs = items(0x0C, list(map(attr, row.attrs)))
-    begin = (row.begin % 2 ** (8 * width)).to_bytes(width, "big")
-    return name(row.name) + ids + attrs + word(row.type) + word(row.vsize) + begin
-
-
-def header(t):
-    return (
-        b"CDF" + bytes([t.version]) + word(t.word)
-        + items(0x0A, list(map(dim, t.dims)))
-        + items(0x0C, list(map(attr, t.attrs)))
-        + items(0x0B, [var(row, t.version) for row in t.vars])
-    )
+from model import Attr, Dim, Tables, Var
+from model import header_bytes as header
+from model import name_bytes as name
+from model import spelled as word
 
 
 def tables(dims=(), vars=(), attrs=(), word=0, version=1):

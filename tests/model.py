@@ -1,4 +1,4 @@
-"""Document 01 as a program: what the header reader and the reads must answer, in exact arithmetic."""
+"""Document 01 as a program: what the header reader, the reads and the header writer must answer, in exact arithmetic."""
 
 from dataclasses import dataclass, field
 
@@ -58,6 +58,14 @@ class Refused(Exception):
         self.number, self.place, self.wanted = number, place, wanted
 
 
+def is_utf8(text):
+    try:
+        text.decode("utf-8")
+    except UnicodeDecodeError:
+        return False
+    return True
+
+
 # ---- the grammar, from left to right ----
 
 
@@ -104,9 +112,7 @@ class Cursor:
         n = self.word(NAME)
         start = self.at
         name = self.take(n)
-        try:
-            name.decode("utf-8")
-        except UnicodeDecodeError:
+        if not is_utf8(name):
             raise Refused(6, start)
         self.padding(n)
         return name
@@ -372,3 +378,126 @@ def find_var(t, buffer, name):
     if name not in found:
         raise Refused(16)
     return found.index(name)
+
+
+# ---- the header's bytes: every empty list as eight zero bytes ----
+
+
+def spelled(n, width=4):
+    """Big-endian. What has no form in so many bytes wraps: the writer refuses it before, hand-made files want it."""
+    return (n % 256**width).to_bytes(width, "big")
+
+
+def padded_out(data):
+    return data + bytes(-len(data) % 4)
+
+
+def name_bytes(name):
+    return spelled(len(name)) + padded_out(name)
+
+
+def list_bytes(tag, items):
+    """items: the bytes of each"""
+    return spelled(tag) + spelled(len(items)) + b"".join(items) if items else bytes(8)
+
+
+def dim_bytes(dim):
+    return name_bytes(dim.name) + spelled(dim.length)
+
+
+def elements(attr):
+    """How many values an attribute has; bytes where its code is no type's."""
+    return len(attr.values) // SIZES.get(attr.type, 1)
+
+
+def attr_bytes(attr):
+    return name_bytes(attr.name) + spelled(attr.type) + spelled(elements(attr)) + padded_out(attr.values)
+
+
+def var_bytes(var, version):
+    ids = spelled(len(var.ids)) + b"".join(map(spelled, var.ids))
+    attrs = list_bytes(0x0C, list(map(attr_bytes, var.attrs)))
+    begin = spelled(var.begin, 4 if version == 1 else 8)
+    return name_bytes(var.name) + ids + attrs + spelled(var.type) + spelled(var.vsize) + begin
+
+
+def header_bytes(t):
+    return (
+        b"CDF" + bytes([t.version]) + spelled(t.word)
+        + list_bytes(0x0A, list(map(dim_bytes, t.dims)))
+        + list_bytes(0x0C, list(map(attr_bytes, t.attrs)))
+        + list_bytes(0x0B, [var_bytes(var, t.version) for var in t.vars])
+    )
+
+
+# ---- the writer ----
+
+
+def is_word(n):
+    return 0 <= n < 2**31
+
+
+def is_open_word(n):
+    return is_word(n) or n == OPEN
+
+
+def all_attrs(t):
+    return t.attrs + [attr for var in t.vars for attr in var.attrs]
+
+
+def fits(t):
+    """The capacities."""
+    return (
+        len(t.dims) <= DIMS
+        and len(t.vars) <= VARS
+        and len(all_attrs(t)) <= ATTRS
+        and all(len(var.ids) <= IDS for var in t.vars)
+        and all(len(row.name) <= NAME for row in t.dims + all_attrs(t) + t.vars)
+    )
+
+
+def in_range(t):
+    """Each number has a form in the tables' version, each name is UTF-8."""
+    beyond = 2**31 if t.version == 1 else 2**63
+    return (
+        t.version in (1, 2)
+        and is_open_word(t.word)
+        and all(is_word(dim.length) for dim in t.dims)
+        and all(attr.type in SIZES and is_word(elements(attr)) for attr in all_attrs(t))
+        and all(len(attr.values) == elements(attr) * SIZES[attr.type] for attr in all_attrs(t))
+        and all(is_word(i) for var in t.vars for i in var.ids)
+        and all(var.type in SIZES and is_open_word(var.vsize) and 0 <= var.begin < beyond for var in t.vars)
+        and all(is_utf8(row.name) for row in t.dims + all_attrs(t) + t.vars)
+    )
+
+
+def count_holds(t):
+    """The count is what the reader would answer; where it would answer 13 or 14, no count holds."""
+    try:
+        return t.count == record_count(t)
+    except Refused:
+        return False
+
+
+def writable(t):
+    """All that the writer tests, each part where those before it hold."""
+    # "inside the text buffer" has no counterpart: these tables hold the bytes of names and values, not where they stand
+    return (
+        fits(t)
+        and in_range(t)
+        and model_rules(t)
+        and rule12(t)
+        and count_holds(t)
+        and rule15(t)
+        and len(header_bytes(t)) <= t.size <= FAR
+    )
+
+
+def write_header(t, out):
+    """number, the header's length, and the output as it then stands"""
+    if not writable(t):
+        return 23, 0, out
+    head = header_bytes(t)
+    if len(head) > len(out):
+        return 22, 0, out
+    return 0, len(head), head + out[len(head) :]

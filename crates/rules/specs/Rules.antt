@@ -1,4 +1,4 @@
--- The header's grammar as the public format gives it, rule by rule (the BNF of "The Format in Detail"), between bytes and what they say. `R s u x`: the bytes s are an R
+-- The header's grammar as the public format gives it, rule by rule (the BNF), between bytes and what they say. `R s u x`: the bytes s are an R
 -- that says x, and then the bytes u. No place, no capacity and no refusal is in it. Where document 01 departs from the BNF, the comment says so.
 use Prim.Native.Nat.{ℕ, zero, suc, _*_, _/_, _%_, _≤_, _<_}
 use mathlib.Core.Path.{_≡_}
@@ -32,7 +32,7 @@ pub data Offset (f : Form) (s u : List ℕ) (n : ℕ) : Type 0 where
   int : f .beginBytes ≡ 4 → NonNeg 4 s u n → Offset f s u n
   int64 : f .beginBytes ≡ 8 → NonNeg 8 s u n → Offset f s u n
 
--- padding = <0, 1, 2, or 3 bytes to next 4-byte boundary>, after n bytes; "Header padding uses null (\x00) bytes"
+-- padding = <0, 1, 2, or 3 bytes to next 4-byte boundary>, after n bytes; in a header they are zero
 pub data Padding (n : ℕ) (s u : List ℕ) : Type 0 where
   nulls : s ≡ replicate (padding n) 0 ++ u → Padding n s u
 
