@@ -64,7 +64,7 @@ begins-small s h few k =
     subst (λ (k : ℕ). k ≤ 2 ^ 62) (ap (λ v. v .begin) e ∙ r) b))
 
 -- a version that was read was admitted
-admitted : (s : List ℕ) (size : ℕ) (a : Admitted) {h : Tree} {e : ℕ} → got h e ≡ header a s size → admits a (h .version) ≡ true
+pub admitted : (s : List ℕ) (size : ℕ) (a : Admitted) {h : Tree} {e : ℕ} → got h e ≡ header a s size → admits a (h .version) ≡ true
 unfolding header versionByte
 admitted s size a {h} g =
     let Q = admits a (h .version) ≡ true in
@@ -79,24 +79,24 @@ admitted s size a {h} g =
 
 module _ (s : List ℕ) (size : ℕ) (a : Admitted) where
   -- what the tables of a tree that was read say
-  read-said : {h : Tree} {e : ℕ} (n : ℕ) → got h e ≡ header a s size → said s (withCount (laid h) n) .contents ≡ contents s h
+  pub read-said : {h : Tree} {e : ℕ} (n : ℕ) → got h e ≡ header a s size → said s (withCount (laid h) n) .contents ≡ contents s h
   unfolding held
   read-said {h} n g = ap (contents s) (laid-held h (read-within a s size (into-got laid refl g)))
 
 -- the rules do not look at the count that the tables get
-same-model : (s : List ℕ) (t : Tables) (n : ℕ) → modelHolds s (withCount t n) ≡ modelHolds s t
+pub same-model : (s : List ℕ) (t : Tables) (n : ℕ) → modelHolds s (withCount t n) ≡ modelHolds s t
 unfolding modelHolds namesHold oneUnlimited idsHold idHolds
 same-model s t n = refl
 
-same-sizes : (t : Tables) (n : ℕ) → sizesHold (withCount t n) ≡ sizesHold t
+pub same-sizes : (t : Tables) (n : ℕ) → sizesHold (withCount t n) ≡ sizesHold t
 unfolding sizesHold recordSize
 same-sizes t n = refl
 
-same-count : (t : Tables) (n : ℕ) → recordCount (withCount t n) ≡ recordCount t
+pub same-count : (t : Tables) (n : ℕ) → recordCount (withCount t n) ≡ recordCount t
 unfolding recordCount hasUnlimited hasRecords firstBegin recordSize
 same-count t n = refl
 
-same-ends : (t : Tables) (n k : ℕ) → endsHold (withCount t n) k ≡ endsHold t k
+pub same-ends : (t : Tables) (n k : ℕ) → endsHold (withCount t n) k ≡ endsHold t k
 unfolding endsHold recordSize
 same-ends t n k = refl
 

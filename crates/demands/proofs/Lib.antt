@@ -7,4 +7,7 @@ pub mod Versions
 pub mod RecordCount
 pub mod ValueReads
 pub mod Laid
+pub mod Alike
+pub mod Placed
 pub mod Derived
+pub mod Written

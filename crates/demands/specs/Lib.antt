@@ -6,3 +6,4 @@ pub mod RecordCount
 pub mod ValueReads
 pub mod Laid
 pub mod Derived
+pub mod Written

@@ -73,7 +73,7 @@ fn after(d: Due, b: u8) -> Scanned
 }
 
 // Whether all the bytes of `text` are well-formed sequences.
-pub(crate) fn is_utf8(text: &[u8]) -> bool
+pub fn is_utf8(text: &[u8]) -> bool
     ensures { λ r. ⌜ r ≡ utf8 (now (text .entry)) ⌝ }
 {
     let mut d = Due {

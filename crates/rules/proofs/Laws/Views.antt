@@ -229,7 +229,7 @@ version-see v k = by (eqb v 1) (eqb v 2) refl refl k
     by false true p q k = inr (eqb-true v 2 q)
     by false false p q k = let z : _≡_ {A = Bool} false true = k in absurd (let w : _≡_ {A = ℕ} 0 1 = cc in omega arith)
 
-version-tell : (v : ℕ) → (v ≡ 1) ⊎ (v ≡ 2) → admits bothVersions v ≡ true
+pub version-tell : (v : ℕ) → (v ≡ 1) ⊎ (v ≡ 2) → admits bothVersions v ≡ true
 unfolding admits
 version-tell v = ⊎-elim (λ (e : v ≡ 1). rw e) (λ (e : v ≡ 2). rw e)
 

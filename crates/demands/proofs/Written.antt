@@ -1,0 +1,329 @@
+-- The round trips.
+use Prim.Native.Nat.{ℕ, zero, suc, _+_, _-_, _*_, _≤_, _<_}
+use native.Mathlib.Omega.{arith}
+use mathlib.Core.Path.{_≡_, refl, sym, ap, subst, _∙_}
+use mathlib.Core.Bool.{Bool, true, false, _&&_}
+use mathlib.Core.List.{List, [], _∷_, _++_, map}
+use lib.ListN.{length, getD, take, drop, set, length-append, length-drop, length-set}
+use lib.Seq.{take-at}
+use lib.Dec.{leb, eqb}
+use borrow.Author.Tests.{leb-true, le-leb, eq-eqb, eqb-true}
+use Rattle.cdf.specs.Step.{Step, got, stop, bind, test, need, into, numberOf, givenOr}
+use Rattle.cdf.specs.Below.{allBelow}
+use Rattle.cdf.specs.Magic.{bothVersions, admits}
+use Rattle.cdf.specs.declared.version.Admitted.{Admitted}
+use Rattle.cdf.proofs.Laws.Below.{both, all-hold, holds-at}
+use Rattle.cdf.proofs.Laws.Step.{into-got, by-got, by-true}
+use Rattle.rules.proofs.Laws.Sound.{got-place}
+use Rattle.items.specs.Types.{sizeOf}
+use Rattle.grammar.specs.Tree.{Tree, VarItem, attrsOf}
+use Rattle.grammar.specs.Tables.{padded, noDim, noAttr, noVar, zeroVar, varRow, varRows, laid, withCount, dimAt, attrAt, varAt}
+use Rattle.grammar.specs.Grammar.{header}
+use Rattle.grammar.specs.Meaning.{Contents, Meaning, contents, held, said}
+use Rattle.grammar.specs.Inner.Within.{Within}
+use Rattle.grammar.specs.declared.tables.Dim.{Dim}
+use Rattle.grammar.specs.declared.tables.Attr.{Attr}
+use Rattle.grammar.specs.declared.tables.Var.{Var}
+use Rattle.grammar.specs.declared.tables.Tables.{Tables}
+use Rattle.grammar.proofs.Laws.Meaning.{laid-held}
+use Rattle.grammar.proofs.Laws.Tables.{getD-padded, length-rows}
+use Rattle.grammar.proofs.Laws.Within.{read-within}
+use Rattle.rules.specs.Rules.{Header as Derives}
+use Rattle.rules.specs.Capacity.{fits}
+use Rattle.rules.specs.Range.{inRange}
+use Rattle.rules.specs.Encode.{encode}
+use Rattle.rules.specs.Cleared.{emptyTags, cleared}
+use Rattle.rules.proofs.Laws.Views.{EachIs, fits-see, range-see, range-tell, version-tell}
+use Rattle.rules.proofs.Laws.Capacity.{DimHeld, AttrHeld, VarHeld, Held, read-held}
+use Rattle.rules.proofs.Laws.Complete.{header-complete}
+use Rattle.rules.proofs.Laws.Encoded.{encode-derived}
+use Rattle.rules.proofs.Laws.Range.{header-range}
+use Rattle.rules.proofs.Laws.Cleared.{header-back}
+use Rattle.order.specs.Writable.{isInside, dimInside, attrInside, varInside, rowsInside, toWrite, countHolds, sizeHolds, writable}
+use Rattle.model.specs.Model.{namesHold, oneUnlimited, idsHold, modelHolds}
+use Rattle.sizes.specs.Records.{sizesHold, endsHold, maxPosition}
+use Rattle.sizes.specs.Count.{recordCount}
+use Rattle.header.specs.Header.{answer, judged, readHeader}
+use Rattle.header.specs.declared.reader.Header.{Header}
+use Rattle.demands.proofs.Accepted.{Came, accepted-came, tree-size}
+use Rattle.demands.proofs.Refusals.{Refuses, gives, stops, count-refuses}
+use Rattle.demands.proofs.Alike.{Alike, model-same, sizes-same, count-same, ends-same}
+use Rattle.demands.proofs.Placed.{PlacedVar, Placed, said-alike}
+use Rattle.demands.proofs.Derived.{accepted-is-derived, read-said, same-model, same-sizes, same-count, same-ends}
+use Rattle.demands.specs.Derived.{AreBytes, Allowed, AcceptedIsDerived}
+use Rattle.demands.specs.Written.{ReadIsWritable, ReadIsGivenBack, HasRows, WrittenIsRead}
+
+-- lists of items that are so
+each-at : {A : Type 0} (P : A → Type 0) (xs : List A) (d : A) → EachIs P xs → (i : ℕ) → i < length xs → P (getD xs i d)
+each-at P [] d k i h = absurd (omega arith)
+each-at P (x ∷ xs) d k zero h = k .0
+each-at P (x ∷ xs) d k (suc i) h = each-at P xs d (k .1) i (omega arith)
+
+each-both : {A : Type 0} (P : A → Type 0) (xs ys : List A) → EachIs P xs → EachIs P ys → EachIs P (xs ++ ys)
+each-both P [] ys k l = l
+each-both P (x ∷ xs) ys k l = (k .0, each-both P xs ys (k .1) l)
+
+attrs-held : (s : List ℕ) (vs : List VarItem) → EachIs (VarHeld s) vs → EachIs (AttrHeld s) (attrsOf vs)
+unfolding attrsOf
+attrs-held s [] k = tt
+attrs-held s (v ∷ vs) k = each-both (AttrHeld s) (v .attrs) (attrsOf vs) (k .0 .attrs) (attrs-held s vs (k .1))
+
+length-padded : {A : Type 0} (n : ℕ) (z : A) (xs : List A) → length (padded n z xs) ≡ n
+unfolding padded
+length-padded zero z xs = refl
+length-padded (suc n) z [] = ap suc (length-padded n z [])
+length-padded (suc n) z (x ∷ xs) = ap suc (length-padded n z xs)
+
+-- the row of a variable: where its attributes end, and the rest as in the tree
+no-item : VarItem
+no-item = record { name = 0; chars = 0; ids = []; attrs = []; code = 0; vsize = 0; begin = 0 }
+
+row-at : (first : ℕ) (vs : List VarItem) (i : ℕ) → i < length vs → (k : ℕ) × (getD (varRows first vs) i noVar ≡ varRow k (getD vs i no-item)) × (k + length (getD vs i no-item .attrs) ≤ first + length (attrsOf vs))
+unfolding varRows attrsOf no-item
+row-at first [] i h = absurd (omega arith)
+row-at first (v ∷ vs) zero h = (first, refl, let l = length-append (v .attrs) (attrsOf vs) in omega arith)
+row-at first (v ∷ vs) (suc i) h =
+    let r = row-at (first + length (v .attrs)) vs i (omega arith) in
+    let l = length-append (v .attrs) (attrsOf vs) in
+    (r .0, r .1, let q = r .2 in omega arith)
+
+-- the rows of a tree that lies inside the bytes
+module _ (s : List ℕ) (h : Tree) (k : Held s h) (w : Within (laid h)) where
+  dim-row : (i : ℕ) → i < length (h .dims) → DimHeld s (dimAt (laid h) i)
+  unfolding laid
+  dim-row i l = subst (DimHeld s) (sym (getD-padded 32 noDim noDim (h .dims) i l (w .dims))) (each-at (DimHeld s) (h .dims) noDim (k .dims) i l)
+
+  attr-row : (i : ℕ) → i < length (h .globals ++ attrsOf (h .vars)) → AttrHeld s (attrAt (laid h) i)
+  unfolding laid
+  attr-row i l =
+      subst (AttrHeld s) (sym (getD-padded 128 noAttr noAttr (h .globals ++ attrsOf (h .vars)) i l (w .attrs)))
+      (each-at (AttrHeld s) (h .globals ++ attrsOf (h .vars)) noAttr (each-both (AttrHeld s) (h .globals) (attrsOf (h .vars)) (k .globals) (attrs-held s (h .vars) (k .vars))) i l)
+
+  var-row : (i : ℕ) → i < length (h .vars) → (n : ℕ) × (varAt (laid h) i ≡ varRow n (getD (h .vars) i no-item)) × (n + length (getD (h .vars) i no-item .attrs) ≤ length (h .globals ++ attrsOf (h .vars))) × VarHeld s (getD (h .vars) i no-item)
+  unfolding laid
+  var-row i l =
+      let r = row-at (length (h .globals)) (h .vars) i l in
+      let n = length-rows (length (h .globals)) (h .vars) in
+      let m = length-append (h .globals) (attrsOf (h .vars)) in
+      let few = w .vars in
+      (r .0, getD-padded 64 zeroVar noVar (varRows (length (h .globals)) (h .vars)) i (omega arith) (omega arith) ∙ r .1, (let q = r .2 in omega arith), each-at (VarHeld s) (h .vars) no-item (k .vars) i l)
+
+  laid-placed : Placed s (laid h)
+  unfolding laid
+  laid-placed =
+      let all = length-append (h .globals) (attrsOf (h .vars)) in
+      let rows = length-padded 128 noAttr (h .globals ++ attrsOf (h .vars)) in
+      let few = w .attrs in
+      record {
+        ndims = rw (length-padded 32 noDim (h .dims)) (w .dims);
+        dims = λ i l. dim-row i l .inside;
+        nglobals = omega arith;
+        globals = λ i l. attr-row i (omega arith) .name .inside;
+        nvars = rw (length-padded 64 zeroVar (varRows (length (h .globals)) (h .vars))) (w .vars);
+        vars = λ i l.
+            let r = var-row i l in
+            let q = r .2 in
+            let v = getD (h .vars) i no-item in
+            let ids = length-padded 8 0 (v .ids) in
+            let low = r .3 .rank in
+            subst (PlacedVar s (laid h)) (sym (r .1))
+            (record {
+              name = r .3 .name .inside;
+              rank = omega arith;
+              span = omega arith;
+              rows = λ j m. attr-row (r .0 + j) (omega arith) .name .inside;
+            });
+      }
+
+  laid-inside : rowsInside s (laid h) ≡ true
+  unfolding rowsInside laid
+  laid-inside =
+      let few = w .attrs in
+      let all = length-append (h .globals) (attrsOf (h .vars)) in
+      rw (
+        le-leb (length (h .dims)) 32 (w .dims),
+        le-leb (length (h .vars)) 64 (w .vars),
+        le-leb (length (h .globals ++ attrsOf (h .vars))) 128 (w .attrs),
+        le-leb (length (h .globals)) (length (h .globals ++ attrsOf (h .vars))) (omega arith),
+        all-hold (dimInside s (laid h)) (length (h .dims)) (λ i l. le-leb _ _ (dim-row i l .inside)),
+        all-hold (attrInside s (laid h)) (length (h .globals ++ attrsOf (h .vars))) (λ i l. let a = attr-row i l in rw (le-leb _ (length s) (a .name .inside), le-leb _ (length s) (a .inside))),
+        all-hold (varInside s (laid h)) (length (h .vars)) (λ i l. var-inside i l),
+      )
+    where
+      var-inside : (i : ℕ) → i < length (h .vars) → varInside s (laid h) i ≡ true
+      var-inside i l = let r = var-row i l in rw (r .1, le-leb _ (length s) (r .3 .name .inside), le-leb _ 8 (r .3 .rank), le-leb _ _ (r .2))
+
+-- clearing keeps the number of bytes
+cleared-length : (ps s : List ℕ) → length (cleared ps s) ≡ length s
+unfolding cleared
+cleared-length [] s = refl
+cleared-length (p ∷ ps) s = cleared-length ps (set s p 0) ∙ length-set s p 0
+
+same-inside : (s : List ℕ) (t : Tables) (n : ℕ) → rowsInside s (withCount t n) ≡ rowsInside s t
+unfolding rowsInside
+same-inside s t n = refl
+
+-- the length of what is written
+back-length : (s u : List ℕ) (m : Contents) → Derives s u m → length (encode m) + length u ≡ length s
+back-length s u m d = sym (length-append (encode m) u) ∙ ap length (sym (header-back s u m d)) ∙ cleared-length (emptyTags (length s) d) s
+
+module _ (s : List ℕ) (size : ℕ) (a : Admitted) (bytes : AreBytes s) (z : readHeader s size a .number ≡ 0) where
+  table : Tables
+  table = readHeader s size a .tables
+
+  table-size : table .size ≡ size
+  unfolding table laid
+  table-size = let c = accepted-came s size a z in ap (λ (x : Header). x .tables .size) (c .is) ∙ tree-size s size a (c .read)
+
+  table-inside : rowsInside s table ≡ true
+  unfolding table
+  table-inside =
+      let c = accepted-came s size a z in
+      ap (λ (x : Header). rowsInside s (x .tables)) (c .is) ∙ same-inside s (laid (c .tree)) (c .count) ∙ laid-inside s (c .tree) (read-held s size a (c .read)) (read-within a s size (into-got laid refl (c .read)))
+
+  short-enough : length (encode (toWrite s table)) ≤ length s
+  unfolding table AcceptedIsDerived
+  short-enough = let d = accepted-is-derived s size a bytes z in let l = back-length s (drop (readHeader s size a .end) s) _ (d .0) in omega arith
+
+  table-writable : writable s table ≡ true
+  unfolding writable table countHolds sizeHolds AcceptedIsDerived
+  table-writable =
+      let d = accepted-is-derived s size a bytes z in
+      let k = d .1 in
+      let range = range-tell (toWrite s table) (header-range s _ _ (d .0)) in
+      let inside = k .inside in
+      let size-is = table-size in
+      let low = short-enough in
+      rw (
+        table-inside,
+        k .capacities,
+        range,
+        k .model,
+        k .sizes,
+        k .count,
+        k .ends,
+        le-leb (length (encode (toWrite s table))) (table .size) (omega arith),
+        le-leb (table .size) maxPosition (let q = k .small in omega arith),
+        eq-eqb (table .count) (table .count) refl,
+      )
+
+  -- where the header ends
+  end-is : length (encode (toWrite s table)) ≡ readHeader s size a .end
+  unfolding table AcceptedIsDerived contents held
+  end-is =
+      let c = accepted-came s size a z in
+      let d = accepted-is-derived s size a bytes z in
+      let e = readHeader s size a .end in
+      let t = header-complete s size {m = toWrite s table} a (d .1 .version) (fits-see _ (d .1 .capacities)) (d .0) in
+      let same : e ≡ t .1 .end = ap (λ (x : Header). x .end) (c .is) ∙ got-place (c .read ∙ sym (t .1 .taken)) in
+      let inside = t .1 .inside in
+      let l = back-length s (drop e s) _ (d .0) in
+      let m = length-drop e s in
+      omega arith
+
+pub read-is-writable : ReadIsWritable
+unfolding ReadIsWritable table
+read-is-writable s size a bytes z = table-writable s size a bytes z
+
+pub read-is-given-back : ReadIsGivenBack
+unfolding ReadIsGivenBack AcceptedIsDerived table
+read-is-given-back s size a bytes z =
+    let d = accepted-is-derived s size a bytes z .0 in
+    let e = readHeader s size a .end in
+    let m = toWrite s (readHeader s size a .tables) in
+    (d, sym (take-at (encode m) (drop e s) e (end-is s size a bytes z)) ∙ ap (take e) (sym (header-back s (drop e s) m d)))
+
+-- the rows of tables that are writable are where they say
+module _ (s : List ℕ) (t : Tables) (rows : HasRows t) (k : rowsInside s t ≡ true) where
+  inside-placed : Placed s t
+  unfolding rowsInside
+  inside-placed =
+      let a = both (leb (t .ndims) 32) _ k in
+      let b = both (leb (t .nvars) 64) _ (a .1) in
+      let c = both (leb (t .nattrs) 128) _ (b .1) in
+      let d = both (leb (t .globals) (t .nattrs)) _ (c .1) in
+      let e = both (allBelow (t .ndims) (dimInside s t)) _ (d .1) in
+      let f = both (allBelow (t .nattrs) (attrInside s t)) _ (e .1) in
+      let dims = leb-true (t .ndims) 32 (a .0) in
+      let vars = leb-true (t .nvars) 64 (b .0) in
+      let attrs = leb-true (t .nattrs) 128 (c .0) in
+      let globals = leb-true (t .globals) (t .nattrs) (d .0) in
+      let dl = rows .dims in
+      let al = rows .attrs in
+      let vl = rows .vars in
+      let attr : (i : ℕ) → i < t .nattrs → attrAt t i .name + attrAt t i .chars ≤ length s = λ i l. leb-true _ _ (both (isInside s t (attrAt t i .name) (attrAt t i .chars)) _ (holds-at (attrInside s t) (t .nattrs) i (f .0) l) .0) in
+      record {
+        ndims = omega arith;
+        dims = λ i l. leb-true _ _ (holds-at (dimInside s t) (t .ndims) i (e .0) l);
+        nglobals = omega arith;
+        globals = λ i l. attr i (omega arith);
+        nvars = omega arith;
+        vars = λ i l.
+            let v = varAt t i in
+            let g = both (isInside s t (v .name) (v .chars)) _ (holds-at (varInside s t) (t .nvars) i (f .1) l) in
+            let h = both (leb (v .rank) 8) _ (g .1) in
+            let rank = leb-true (v .rank) 8 (h .0) in
+            let span = leb-true (v .first + v .attrs) (t .nattrs) (h .1) in
+            let il = rows .ids i l in
+            record { name = leb-true _ _ (g .0); rank = omega arith; span = omega arith; rows = λ j m. attr (v .first + j) (omega arith) };
+      }
+
+-- a count that the writer accepts is the reader's
+counted : (t : Tables) (s : List ℕ) → countHolds s t ≡ true → (p : ℕ) × (recordCount t ≡ got (t .count) p)
+unfolding countHolds
+counted t s k = by (count-refuses {P = λ i. i ≡ 0 → ⊥} (λ z. omega arith) (λ z. omega arith) t) (both (eqb (numberOf (recordCount t)) 0) _ k)
+  where
+    by : {m : Step ℕ} → Refuses (λ i. i ≡ 0 → ⊥) m → (eqb (numberOf m) 0 ≡ true) × (eqb (givenOr 0 m) (t .count) ≡ true) → (p : ℕ) × (m ≡ got (t .count) p)
+    by (gives n p) h = (p, ap (λ (x : ℕ). got x p) (eqb-true n (t .count) (h .1)))
+    by (stops i p never) h = absurd (never (eqb-true i 0 (h .0)))
+
+laid-size : (h : Tree) → h .size ≡ laid h .size
+unfolding laid
+laid-size h = refl
+
+-- what was written is read
+module _ (s : List ℕ) (t : Tables) (rows : HasRows t) (ok : writable s t ≡ true) (u : List ℕ) where
+  new : List ℕ
+  new = encode (toWrite s t) ++ u
+
+  reads : length new ≤ t .size → (readHeader new (t .size) bothVersions .number ≡ 0) × (readHeader new (t .size) bothVersions .end ≡ length (encode (toWrite s t))) × (said new (readHeader new (t .size) bothVersions .tables) ≡ said s t)
+  unfolding writable new sizeHolds readHeader judged answer modelHolds held
+  reads fitting =
+      let m = toWrite s t in
+      let a = both (rowsInside s t) _ ok in
+      let b = both (fits m) _ (a .1) in
+      let c = both (inRange m) _ (b .1) in
+      let d = both (modelHolds s t) _ (c .1) in
+      let e = both (sizesHold t) _ (d .1) in
+      let f = both (countHolds s t) _ (e .1) in
+      let g = both (endsHold t (t .count)) _ (f .1) in
+      let small = leb-true (t .size) maxPosition (both (leb (length (encode m)) (t .size)) _ (g .1) .1) in
+      let range = range-see m (c .0) in
+      let x = header-complete new (t .size) {m = m} bothVersions (version-tell (m .version) (range .version)) (fits-see m (b .0)) (encode-derived m u range) in
+      let h = x .0 in
+      let k = x .1 in
+      let w = read-within bothVersions new (t .size) (into-got laid refl (k .taken)) in
+      let back = laid-held h w in
+      let said-same : said new (laid h) .contents ≡ m = ap (contents new) back ∙ x .2 in
+      let same-size : t .size ≡ laid h .size = sym (x .3) ∙ laid-size h in
+      let like = said-alike s new t (laid h) (inside-placed s t rows (a .0)) (laid-placed new h (read-held new (t .size) bothVersions (k .taken)) w) same-size (sym said-same) in
+      let ids = both (oneUnlimited t) (idsHold t) (both (namesHold s t) _ (d .0) .1) .1 in
+      let n = counted t s (f .0) in
+      let judge : got (withCount (laid h) (t .count)) (k .end) ≡ judged new (laid h) (k .end) =
+      by-true _ (sym (model-same s new like) ∙ d .0)
+      (by-true _ (sym (sizes-same s new like ids) ∙ e .0)
+      (by-got _ _ (sym (n .1) ∙ count-same s new like ids)
+      (by-true _ (sym (ends-same s new like ids (t .count)) ∙ g .0) refl))) in
+      let fine : (leb (length new) (t .size) && leb (t .size) maxPosition) ≡ true = rw (le-leb (length new) (t .size) fitting, le-leb (t .size) maxPosition small) in
+      let whole = ap answer (by-true _ fine (by-got (judged new) _ (into-got laid refl (k .taken)) judge)) in
+      let l = length-append (encode m) u in
+      let o = ap length (k .rest) ∙ length-drop (k .end) new in
+      let inside = k .inside in (
+        ap (λ (r : Header). r .number) (sym whole),
+        ap (λ (r : Header). r .end) (sym whole) ∙ (let q : k .end ≡ length (encode m) = omega arith in q),
+        ap (λ (r : Header). said new (r .tables)) (sym whole) ∙ (λ i. record { contents = said-same i; count = t .count; size = sym same-size i }),
+      )
+
+pub written-is-read : WrittenIsRead
+unfolding WrittenIsRead new
+written-is-read s t rows ok u fitting = reads s t rows ok u fitting

@@ -1,0 +1,91 @@
+-- Laws of variables that are put into an output.
+use Prim.Native.Nat.{ℕ, _+_, _/_, _%_, _≤_, _<_}
+use native.Mathlib.Omega.{arith}
+use mathlib.Core.Path.{_≡_, refl}
+use mathlib.Core.List.{List, [], _∷_, _++_}
+use lib.ListN.{length, take, length-append}
+use Rattle.cdf.specs.Form.{form}
+use Rattle.items.specs.Name.{part}
+use Rattle.grammar.specs.declared.tables.Attr.{Attr}
+use Rattle.grammar.specs.declared.tables.Var.{Var}
+use Rattle.grammar.specs.declared.tables.Tables.{Tables}
+use Rattle.rules.specs.Rules.{spelled}
+use Rattle.rules.specs.Encode.{each, nameBytes}
+use Rattle.rules.proofs.Laws.Spelled.{length-spelled}
+use Rattle.writer.specs.Inner.Put.{Put}
+use Rattle.writer.specs.Inner.Parts.{startBytes, dimOut, shapeOut, tailOut, attrsOut, varOut, listsOut, headerOut}
+use Rattle.writer.proofs.Laws.Put.{put-then, put-is}
+
+-- two and three parts one after the other
+pub put-two : {s t u : List ℕ} {i j k : ℕ} (x y : List ℕ) → i + length (x ++ y) ≤ length s → Put s i x t j → Put t j y u k → Put s i (x ++ y) u k
+put-two x y room f g = let l = length-append x y in put-then (omega arith) f g
+
+pub put-three : {s t u v : List ℕ} {i j k l : ℕ} (x y z : List ℕ) → i + length (x ++ (y ++ z)) ≤ length s → length t ≡ length s → Put s i x t j → Put t j y u k → Put u k z v l → Put s i (x ++ (y ++ z)) v l
+put-three x y z room same f g h =
+    let l = length-append x (y ++ z) in
+    let m = length-append y z in
+    let p = f .place in
+    put-then (omega arith) f (put-then (omega arith) g h)
+
+pub length-three : (x y z : List ℕ) → length (x ++ (y ++ z)) ≡ length x + (length y + length z)
+length-three x y z = let l = length-append x (y ++ z) in let m = length-append y z in omega arith
+
+pub length-tail : (version : ℕ) (v : Var) → length (tailOut version v) ≡ 8 + form version .beginBytes
+length-tail version v =
+    let l = length-three (spelled 4 (v .code)) (spelled 4 (v .vsize)) (spelled (form version .beginBytes) (v .begin)) in
+    let a = length-spelled 4 (v .code) in
+    let b = length-spelled 4 (v .vsize) in
+    let c = length-spelled (form version .beginBytes) (v .begin) in
+    omega arith
+
+module _ (s : List ℕ) where
+  pub length-shape : (v : Var) → length (shapeOut s v) ≡ length (nameBytes (form 1) (part s (v .name) (v .chars))) + (4 + length (each (spelled 4) (take (v .rank) (v .ids))))
+  length-shape v =
+      let l = length-three (nameBytes (form 1) (part s (v .name) (v .chars))) (spelled 4 (v .rank)) (each (spelled 4) (take (v .rank) (v .ids))) in
+      let a = length-spelled 4 (v .rank) in
+      omega arith
+
+  pub length-var : (version : ℕ) (xs : List Attr) (v : Var) → length (varOut s version xs v) ≡ length (shapeOut s v) + (length (attrsOut s xs (v .first) (v .attrs)) + length (tailOut version v))
+  unfolding varOut
+  length-var version xs v = length-three (shapeOut s v) (attrsOut s xs (v .first) (v .attrs)) (tailOut version v)
+
+  pub put-var : {o t u w : List ℕ} {i j k l : ℕ} (version : ℕ) (xs : List Attr) (v : Var) → i + length (varOut s version xs v) ≤ length o → length t ≡ length o → Put o i (shapeOut s v) t j
+      → Put t j (attrsOut s xs (v .first) (v .attrs)) u k → Put u k (tailOut version v) w l → Put o i (varOut s version xs v) w l
+  unfolding varOut
+  put-var version xs v room same f g h = put-three (shapeOut s v) (attrsOut s xs (v .first) (v .attrs)) (tailOut version v) room same f g h
+
+-- CDF and a version as a word
+spelled-magic : (v : ℕ) → v < 256 → spelled 4 (1128547840 + v) ≡ 0x43 ∷ 0x44 ∷ 0x46 ∷ v ∷ []
+unfolding spelled
+spelled-magic v h =
+    let n = 1128547840 + v in
+    let a : n / 256 / 256 / 256 % 256 ≡ 0x43 = omega arith in
+    let b : n / 256 / 256 % 256 ≡ 0x44 = omega arith in
+    let c : n / 256 % 256 ≡ 0x46 = omega arith in
+    let d : n % 256 ≡ v = omega arith in
+    rw (a, b, c, d) refl
+
+module _ (s : List ℕ) (t : Tables) where
+  abbrev pub dimsPart : List ℕ
+  dimsPart = startBytes 0x0A (t .ndims) ++ each (dimOut s) (take (t .ndims) (t .dims))
+
+  abbrev pub varsPart : List ℕ
+  varsPart = startBytes 0x0B (t .nvars) ++ each (varOut s (t .version) (t .attrs)) (take (t .nvars) (t .vars))
+
+  pub length-lists : length (listsOut s t) ≡ length dimsPart + (length (attrsOut s (t .attrs) 0 (t .globals)) + length varsPart)
+  unfolding listsOut
+  length-lists = length-three dimsPart (attrsOut s (t .attrs) 0 (t .globals)) varsPart
+
+  pub put-lists : {o p q r : List ℕ} {i j k l : ℕ} → i + length (listsOut s t) ≤ length o → length p ≡ length o → Put o i dimsPart p j → Put p j (attrsOut s (t .attrs) 0 (t .globals)) q k → Put q k varsPart r l
+      → Put o i (listsOut s t) r l
+  unfolding listsOut
+  put-lists room same f g h = put-three dimsPart (attrsOut s (t .attrs) 0 (t .globals)) varsPart room same f g h
+
+  pub length-header : length (headerOut s t) ≡ 8 + length (listsOut s t)
+  unfolding headerOut
+  length-header = let l = length-three (0x43 ∷ 0x44 ∷ 0x46 ∷ t .version ∷ []) (spelled 4 (t .word)) (listsOut s t) in let a = length-spelled 4 (t .word) in omega arith
+
+  pub put-whole : {o p q r : List ℕ} {j k l : ℕ} → t .version < 256 → length (headerOut s t) ≤ length o → length p ≡ length o → Put o 0 (spelled 4 (1128547840 + t .version)) p j → Put p j (spelled 4 (t .word)) q k
+      → Put q k (listsOut s t) r l → Put o 0 (headerOut s t) r l
+  unfolding headerOut
+  put-whole low room same f g h = put-three (0x43 ∷ 0x44 ∷ 0x46 ∷ t .version ∷ []) (spelled 4 (t .word)) (listsOut s t) (omega arith) same (put-is f (spelled-magic (t .version) low)) g h

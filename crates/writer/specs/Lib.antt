@@ -1,0 +1,3 @@
+-- What the header writer answers.
+pub mod Writes
+pub mod Inner

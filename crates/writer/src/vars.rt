@@ -1,0 +1,112 @@
+// Variables, put into an output as the format has them.
+ghost use Prim.Native.Nat.{ℕ, _+_, _≤_, _<_};
+ghost use mathlib.Core.List.{_++_};
+ghost use lib.ListN.{length, take, getD};
+ghost use Rattle.grammar.specs.Tables.{noVar};
+ghost use Rattle.rules.specs.Rules.{spelled};
+ghost use Rattle.rules.specs.Encode.{each};
+ghost use Rattle.writer.specs.Inner.Put.{Put};
+ghost use Rattle.writer.specs.Inner.Parts.{startBytes, shapeOut, tailOut, varOut, VarIn};
+use crate::put::put_begin;
+use crate::put::put_name;
+use crate::put::put_start;
+use crate::put::put_word;
+use crate::rows::put_attrs;
+use grammar::tables::Attr;
+use grammar::tables::Var;
+
+// The first `rank` ids.
+fn put_ids(out: &mut [u8], at: usize, ids: [u32; 8], rank: usize) -> usize
+    requires { ⌜ (rank ≤ 8) × (at + length (each (spelled 4) (take rank ids)) ≤ length (now out)) ⌝ }
+    ensures { λ r. ⌜ Put (now (out .entry)) at (each (spelled 4) (take rank ids)) (now (out .exit)) r ⌝ }
+{
+    let mut p = at;
+    let mut i = 0;
+    while i < rank {
+        let id = ids[i];
+        p = put_word(out, p, id as u64);
+        i += 1;
+    }
+    p
+}
+
+// A variable's name and dimensions.
+fn put_shape(out: &mut [u8], at: usize, text: &[u8], v: Var) -> usize
+    requires { ⌜ (v .name + v .chars ≤ length (now text)) × (v .rank ≤ 8) × (at + length (shapeOut (now text) v) ≤ length (now out)) ⌝ }
+    ensures { λ r. ⌜ Put (now (out .entry)) at (shapeOut (now (text .entry)) v) (now (out .exit)) r ⌝ }
+{
+    let name = v.name;
+    let chars = v.chars as usize;
+    let rank = v.rank as usize;
+    let ids = v.ids;
+    let number = put_name(out, at, text, name, chars);
+    let first = put_word(out, number, rank as u64);
+    put_ids(out, first, ids, rank)
+}
+
+// A variable's type, vsize and begin.
+fn put_tail(out: &mut [u8], at: usize, version: u8, v: Var) -> usize
+    requires { ⌜ at + length (tailOut version v) ≤ length (now out) ⌝ }
+    ensures { λ r. ⌜ Put (now (out .entry)) at (tailOut version v) (now (out .exit)) r ⌝ }
+{
+    let code = v.code as u64;
+    let vsize = v.vsize;
+    let begin = v.begin;
+    let size = put_word(out, at, code);
+    let start = put_word(out, size, vsize);
+    put_begin(out, start, version, begin)
+}
+
+// A variable, whose attributes stand among the rows `attrs`.
+fn put_var(out: &mut [u8], at: usize, text: &[u8], version: u8, attrs: [Attr; 128], v: Var) -> usize
+    requires { ⌜ VarIn (now text) attrs v × (at + length (varOut (now text) version attrs v) ≤ length (now out)) ⌝ }
+    ensures { λ r. ⌜ Put (now (out .entry)) at (varOut (now (text .entry)) version attrs v) (now (out .exit)) r ⌝ }
+{
+    let first = v.first as usize;
+    let n = v.attrs as usize;
+    let list = put_shape(out, at, text, v);
+    let kind = put_attrs(out, list, text, attrs, first, n);
+    put_tail(out, kind, version, v)
+}
+
+// The first `n` variables.
+fn put_var_rows(
+    out: &mut [u8],
+    at: usize,
+    text: &[u8],
+    version: u8,
+    attrs: [Attr; 128],
+    vars: [Var; 64],
+    n: usize,
+) -> usize
+    requires { ⌜ (n ≤ 64) × (at + length (each (varOut (now text) version attrs) (take n vars)) ≤ length (now out)) ⌝ }
+    requires { ⌜ ((i : ℕ) → i < n → VarIn (now text) attrs (getD vars i noVar)) ⌝ }
+    ensures { λ r. ⌜ Put (now (out .entry)) at (each (varOut (now (text .entry)) version attrs) (take n vars)) (now (out .exit)) r ⌝ }
+{
+    let mut p = at;
+    let mut i = 0;
+    while i < n {
+        let v = vars[i];
+        p = put_var(out, p, text, version, attrs, v);
+        i += 1;
+    }
+    p
+}
+
+// The list of the first `n` variables.
+pub(crate) fn put_vars(
+    out: &mut [u8],
+    at: usize,
+    text: &[u8],
+    version: u8,
+    attrs: [Attr; 128],
+    vars: [Var; 64],
+    n: usize,
+) -> usize
+    requires { ⌜ (n ≤ 64) × (at + length (startBytes 11 n ++ each (varOut (now text) version attrs) (take n vars)) ≤ length (now out)) ⌝ }
+    requires { ⌜ ((i : ℕ) → i < n → VarIn (now text) attrs (getD vars i noVar)) ⌝ }
+    ensures { λ r. ⌜ Put (now (out .entry)) at (startBytes 11 n ++ each (varOut (now (text .entry)) version attrs) (take n vars)) (now (out .exit)) r ⌝ }
+{
+    let first = put_start(out, at, 11, n);
+    put_var_rows(out, first, text, version, attrs, vars, n)
+}
