@@ -13,6 +13,7 @@ import sys
 
 import encode
 import model
+import rows
 from cases import EMPTY, cases
 from model import OPEN, SIZES
 
@@ -29,6 +30,7 @@ PATTERNS = {
 # how a code of an output's read shows: the type read, the value of an element that is not written
 CODES = {1: (1, "99"), 2: (2, "99"), 3: (3, "99"), 4: (4, "99"), 5: (5, f"{99:08x}"), 6: (6, f"{99:016x}"), 7: (5, "3f800000"), 8: (6, "3ff0000000000000")}
 GAP = b"\xee"  # what stands between values: a read that takes it for one shows
+KEPT, ROOM = b"\x99", 8192  # what an output holds before a header is written; the longest one
 
 
 def is_nan(data):
@@ -183,51 +185,23 @@ def row_text(*numbers):
 
 def header_text(number, place, end, t):
     """All that the header reader answers; a 0 after each list says that the rows past its count are zero."""
-    attrs, firsts = list(t.attrs), []
-    for var in t.vars:
-        firsts.append(len(attrs))
-        attrs += var.attrs
+    attrs = model.all_attrs(t)
     parts = [row_text(number, place, end, t.version, t.word, t.count, t.size)]
     parts += [row_text(len(t.dims)), *(row_text(dim.at, len(dim.name), dim.length) for dim in t.dims), "0"]
     parts += [row_text(len(attrs), len(t.attrs))]
     parts += [*(row_text(a.at, len(a.name), a.type, len(a.values) // SIZES[a.type], a.values_at) for a in attrs), "0"]
     parts += [row_text(len(t.vars))]
-    for var, first in zip(t.vars, firsts):
+    for var, first in zip(t.vars, rows.first_attrs(t)):
         ids = [*var.ids, *[0] * model.IDS][: model.IDS]
         parts += [row_text(var.at, len(var.name), len(var.ids), *ids, first, len(var.attrs), var.type, var.vsize, var.begin % 2**64)]
     return " ".join([*parts, "0"])
-
-
-def numbers_of(t):
-    """The numbers that a line can change, by its letter and row."""
-    numbers = {"v": len(t.vars), "d": len(t.dims), "n": t.count}
-    numbers.update((("l", i), t.dims[i].length if i < len(t.dims) else 0) for i in range(model.DIMS))
-    for i in range(model.VARS):
-        var = t.vars[i] if i < len(t.vars) else model.Var(b"", [], [], 0, 0, 0)
-        first = var.ids[0] if var.ids else 0
-        numbers.update({("c", i): var.type, ("k", i): len(var.ids), ("i", i): first, ("p", i): var.at, ("b", i): var.begin % 2**64})
-    return numbers
-
-
-def tables_of(numbers, t):
-    """Tables of these numbers; what no line changes is that of t."""
-
-    def var(i):
-        name, row = (t.vars[i].name, t.vars[i].ids) if i < len(t.vars) else (b"", [])
-        rank, begin = numbers["k", i], numbers["b", i]
-        ids = [numbers["i", i], *row[1:], *[0] * rank][:rank]
-        return model.Var(name, ids, [], numbers["c", i], 0, begin - 2**64 if begin >> 63 else begin, numbers["p", i])
-
-    dims = [model.Dim(b"", numbers.get(("l", i), 0)) for i in range(min(numbers["d"], model.DIMS + 1))]
-    vars = [var(min(i, model.VARS - 1)) for i in range(min(numbers["v"], model.VARS + 1))]
-    return model.Tables(t.version, t.word, numbers["n"], t.size, dims, [], vars)
 
 
 class Replay:
     """The lines so far, and their answers."""
 
     def __init__(self):
-        self.recorded, self.expected, self.refusals, self.answers = [], [], {}, {}
+        self.recorded, self.expected, self.refusals, self.answers, self.written = [], [], {}, {}, {}
         self.files = self.headers = self.values = self.outputs = self.lookups = 0
 
     def line(self, kind, *rest):
@@ -237,7 +211,7 @@ class Replay:
     def file(self, data):
         """Whether its header is accepted."""
         number, place, records, end, self.first = model.read_header(data, len(data))
-        self.numbers = numbers_of(self.first)
+        self.numbers = rows.numbers_of(self.first)
         self.data, self.window, self.start, self.tables = data, (0, len(data)), 0, self.first
         self.line("f", data.hex())
         self.expected.append(header_text(number, place, end, self.first))
@@ -258,7 +232,10 @@ class Replay:
         self.line(*key)
         *name, value = key
         self.numbers[tuple(name) if name[1:] else name[0]] = value
-        self.tables = tables_of(self.numbers, self.first)
+        self.tables = rows.tables_of(self.numbers, self.first, self.data)
+
+    def number_of(self, *key):
+        return self.numbers.get(key if key[1:] else key[0], 0)
 
     def look(self, start, stop):
         """The window from here on."""
@@ -316,6 +293,19 @@ class Replay:
         self.outputs += 1
         self.expected.append(" ".join([str(number), *texts, *[kept] * (room - len(texts))]))
         return values
+
+
+    def writes(self, room, length=None):
+        """The tables' header, into an output of so many bytes; the file's first bytes are the text."""
+        length = len(self.data) if length is None else length
+        text, out = self.data[:length], KEPT * min(room, ROOM)
+        self.line("x", room, length)
+        number, n = 23, 0
+        if rows.inside(self.numbers, text):
+            number, n, out = model.write_header(rows.tables_of(self.numbers, self.first, text), out)
+        self.expected.append(" ".join(map(str, [n, number, *out])))
+        self.written[number] = self.written.get(number, 0) + 1
+        return n
 
 
 def codes(var):
@@ -481,7 +471,7 @@ def changes(t):
 def out_of_order(play):
     """23, which comes before all others, and goes with the number that gave it."""
     for *name, value in list(changes(play.tables)):
-        was = play.numbers[tuple(name) if name[1:] else name[0]]
+        was = play.number_of(*name)
         play.change(*name, value)
         for i in (0, len(play.first.vars) - 1, 70):
             play.element(i, 0, 0)
@@ -489,6 +479,43 @@ def out_of_order(play):
         play.output(0, 0, 4, 6)
         play.output(0, None, 4, 0)
         play.change(*name, was)
+
+
+def small(version, word):
+    """Every list filled, an unlimited dimension; text behind the header for names of 257 bytes."""
+    dims, own = [(b"t", 0), (b"lat", 3)], [(b"u", 2, b"K"), (b"w", 6, bytes(8))]
+    globals = [(b"g", 3, b"\0\1\0\2"), (b"hh", 2, b"abcde")]
+    vars = [(b"x", [0, 1], 3, 300, own), (b"y", [1, 1], 6, 320)]
+    return encode.file(dims, vars, globals, word=word, version=version).ljust(300, b"a") + b"b" * (4 * 8 + 256)
+
+
+def headers_written(play):
+    """What was read is written, with room to spare, just enough, a byte short and none, the text whole and cut; then one number of the tables is
+    another."""
+    tagged = bytearray(EMPTY)
+    tagged[11], tagged[19], tagged[27] = 0x0A, 0x0C, 0x0B
+    small_files = [small(1, 4), small(2, OPEN)]
+    for data in (EMPTY, bytes(tagged), rich(1, 0), rich(2, 7), full(), *small_files, *refused_files()):
+        play.file(data)
+        end = play.writes(len(data) + 16)
+        for room in {end, max(end - 1, 0), end // 2, 0}:
+            play.writes(room)
+        for length in {end - 1, end // 2, 12, 0} if end else ():
+            play.writes(8, length)
+    for data in small_files:
+        play.file(data)
+        end = play.writes(len(data))
+        for name, value in list(rows.changes(play.numbers, data, end)):
+            was = play.number_of(*name)
+            play.change(*name, value)
+            # a refusal for the tables comes before the one for room
+            inside = rows.inside(play.numbers, data)
+            play.writes(len(model.header_bytes(play.tables)) if inside and model.writable(play.tables) else 8)
+            play.change(*name, was)
+    for word in (0, 2**31 - 1):
+        play.change("W", word)
+        play.change("n", word)
+        play.writes(400)
 
 
 def replay():
@@ -515,6 +542,7 @@ def replay():
     for data, _ in (made([A, T, B], [(b"r", [1, 2], 4), (b"m", [2, 0], 4)], 2), made([A], [(b"f", [0], 4)], version=2)):
         play.file(data)
         out_of_order(play)
+    headers_written(play)
     return play
 
 
@@ -538,6 +566,8 @@ def main():
     headers = ", ".join(f"{number} {times} times" for number, times in sorted(play.answers.items()))
     print(f"{play.files} files, {play.headers} headers more; answers: {headers}")
     print(f"{play.values} values by elements, {play.outputs} reads into outputs, {play.lookups} lookups; refusals: {given}")
+    written = ", ".join(f"{number} {times} times" for number, times in sorted(play.written.items()))
+    print(f"headers written: {written}")
     if differ:
         sys.exit(f"replay: {' and '.join(differ)} differ from what the model answers")
 

@@ -1,4 +1,4 @@
-// Runs the header reader, the reads and the lookups on recorded files. A line of standard input is a letter, a
+// Runs the header reader, the reads, the lookups and the header writer on recorded files. A line of standard input is a letter, a
 // space and what the letter takes: the bytes of a file in hexadecimal, or numbers in decimal.
 //     f HEX                      a file: all that the header reader answers, where both versions are admitted
 //     h SET LENGTH SIZE          the same for the file's first bytes, a file of that size, and the versions in the set: 1, 2 or both (3)
@@ -10,6 +10,7 @@
 //     a VAR 0 CODE ROOM          all records
 //     m VAR                      a variable's name: the answer's number, then its bytes
 //     q FROM TO                  the variable whose name is these bytes of the file
+//     x ROOM LENGTH              the tables' header, written into an output of so many bytes; the file's first bytes are the text
 // The other letters change a number of the tables (tables.rt). tests/replay.py writes the lines and
 // what is expected.
 ghost use Prim.Native.Nat.{_≤_};
@@ -25,6 +26,7 @@ use crate::shown::show_header;
 use crate::tables::changed;
 use crate::text::least;
 use crate::text::numbers;
+use crate::written::show_written;
 use cdf::version::Admitted;
 use grammar::tables::Tables;
 use grammar::tables::blank;
@@ -40,6 +42,7 @@ mod output;
 mod shown;
 mod tables;
 mod text;
+mod written;
 
 // The last file's tables and size, the window on its bytes, and where the reads are told that it starts.
 struct Held {
@@ -122,51 +125,42 @@ fn look_up(kind: u8, a: [u64; 4], t: Tables, s: &[u8]) {
     show_found(t, s, a[0] as usize, a[1] as usize);
 }
 
-// What a line with the letter `kind` and the numbers `a` asks of the last file.
-fn asked(kind: u8, a: [u64; 4], file: &[u8], held: Held) -> Held {
+// What a line that changes nothing asks of the last file.
+fn answer(kind: u8, a: [u64; 4], file: &[u8], held: Held) {
     let tables = held.tables;
+    let size = least(held.size, file.len());
     match kind {
-        b'w' => Held {
-            tables,
-            size: held.size,
-            from: a[0] as usize,
-            to: least(a[1] as usize, held.size),
-            start: a[0],
-        },
-        b's' => Held {
-            tables,
-            size: held.size,
-            from: held.from,
-            to: held.to,
-            start: a[0],
-        },
         b'h' => {
-            let length = least(a[1] as usize, least(held.size, file.len()));
+            let length = least(a[1] as usize, size);
             headed(a[0], &file[0..length], a[2]);
-            held
         }
-        b'm' | b'q' => {
-            let size = least(held.size, file.len());
-            look_up(kind, a, tables, &file[0..size]);
-            held
+        b'x' => {
+            let length = least(a[1] as usize, size);
+            show_written(tables, &file[0..length], a[0] as usize);
         }
-        b'e' | b't' | b'r' | b'a' => {
+        b'm' | b'q' => look_up(kind, a, tables, &file[0..size]),
+        _ => {
             let to = least(held.to, file.len());
             let from = least(held.from, to);
             read(kind, a, tables, &file[from..to], held.start);
-            held
-        }
-        _ => {
-            let t = changed(kind, a, tables);
-            Held {
-                tables: t,
-                size: held.size,
-                from: held.from,
-                to: held.to,
-                start: held.start,
-            }
         }
     }
+}
+
+// What is held after a line with the letter `kind` and the numbers `a`.
+fn asked(kind: u8, a: [u64; 4], file: &[u8], held: Held) -> Held {
+    let mut next = held;
+    match kind {
+        b'h' | b'x' | b'm' | b'q' | b'e' | b't' | b'r' | b'a' => answer(kind, a, file, held),
+        b'w' => {
+            next.from = a[0] as usize;
+            next.to = least(a[1] as usize, held.size);
+            next.start = a[0];
+        }
+        b's' => next.start = a[0],
+        _ => next.tables = changed(kind, a, held.tables),
+    }
+    next
 }
 
 fn line(text: &[u8], file: &mut [u8], held: Held) -> Held
@@ -196,7 +190,7 @@ fn lines(text: &[u8], buffer: &mut [u8], file: &mut [u8])
 }
 
 fn main() {
-    let mut text = [0u8; 262144];
+    let mut text = [0u8; 524288];
     let mut buffer = [0u8; 16385];
     let mut file = [0u8; 8192];
     let n = io::read_full(0, &mut text);

@@ -2,3 +2,4 @@
 // makes it a part.
 mod values; // values.rt: values of a whole file
 mod place; // place.rt: the place of a header's refusal
+mod rewrite; // rewrite.rt: a header written anew
