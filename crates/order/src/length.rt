@@ -3,7 +3,7 @@ ghost use mathlib.Core.Path.{_≡_};
 ghost use Prim.Native.Nat.{_+_, _*_, _≤_, _<_};
 ghost use Rattle.cdf.specs.Form.{form};
 ghost use Rattle.items.specs.Types.{sizeOf};
-ghost use Rattle.order.specs.Inner.Lengths.{nameLength, attrLength, attrsLength, varLength, dimsLength, varsLength, headerLength, CountsHold};
+ghost use Rattle.order.specs.Inner.Lengths.{nameLength, attrLength, attrsLength, varAlone, dimsLength, varsLength, headerLength, CountsHold};
 use cdf::padding::compute_padding_size;
 use grammar::tables::Attr;
 use grammar::tables::Tables;
@@ -40,20 +40,16 @@ fn attr_len(a: Attr) -> u64
     name_len(a.chars as u64) + 8 + (bytes + compute_padding_size(bytes))
 }
 
-// The bytes of the `n` attributes from `first` on.
-fn attrs_len(t: Tables, first: usize, n: usize) -> u64
-    requires { ⌜ first + n ≤ 128 ⌝ }
-    ensures { λ r. ⌜ (r ≡ attrsLength (t .attrs) first n) × (r ≤ 8796093022208) ⌝ }
+// The bytes of the global attributes.
+fn globals_len(t: Tables) -> u64
+    requires { ⌜ t .globals ≤ 128 ⌝ }
+    ensures { λ r. ⌜ (r ≡ attrsLength (t .attrs) 0 (t .globals)) × (r ≤ 8796093022208) ⌝ }
 {
-    // an empty list is not worth a copy of the rows
-    if n == 0 {
-        return 0;
-    }
     let rows = t.attrs;
     let mut sum = 0;
     let mut i = 0;
-    while i < n {
-        sum += attr_len(rows[first + i]);
+    while i < t.globals {
+        sum += attr_len(rows[i]);
         i += 1;
     }
     sum
@@ -66,21 +62,11 @@ fn begin_len(version: u8) -> u64
     if version == 1 { 4 } else { 8 }
 }
 
-// The bytes of a variable.
-fn var_len(t: Tables, v: Var) -> u64
-    requires { ⌜ v .first + v .attrs ≤ 128 ⌝ }
-    ensures { λ r. ⌜ (r ≡ varLength t v) × (r ≤ 17592186044416) ⌝ }
+// The bytes of a variable without its attributes.
+fn var_len(version: u8, v: Var) -> u64
+    ensures { λ r. ⌜ (r ≡ varAlone version v) × (r ≤ 8589934592) ⌝ }
 {
-    let first = v.first as usize;
-    let n = v.attrs as usize;
-    let version = t.version;
-    name_len(v.chars as u64)
-        + 4
-        + 4 * v.rank as u64
-        + 8
-        + attrs_len(t, first, n)
-        + 8
-        + begin_len(version)
+    name_len(v.chars as u64) + 4 + 4 * v.rank as u64 + 8 + 8 + begin_len(version)
 }
 
 // The bytes of the dimensions.
@@ -99,26 +85,36 @@ fn dims_len(t: Tables) -> u64
     sum
 }
 
-// The bytes of the variables.
+// The bytes of the variables. Their attributes are summed in place: a call would copy the rows for each variable.
 fn vars_len(t: Tables) -> u64
     requires { ⌜ CountsHold t ⌝ }
     ensures { λ r. ⌜ (r ≡ varsLength t) × (r ≤ 1125899906842624) ⌝ }
 {
     let rows = t.vars;
+    let attrs = t.attrs;
+    let version = t.version;
     let mut sum = 0;
     let mut i = 0;
     while i < t.nvars {
-        sum += var_len(t, rows[i]);
+        let v = rows[i];
+        let first = v.first as usize;
+        let n = v.attrs as usize;
+        let mut own = 0;
+        let mut k = 0;
+        while k < n {
+            own += attr_len(attrs[first + k]);
+            k += 1;
+        }
+        sum += var_len(version, v) + own;
         i += 1;
     }
     sum
 }
 
 // The bytes of the header.
-pub fn header_len(t: Tables) -> u64
+pub(crate) fn header_len(t: Tables) -> u64
     requires { ⌜ CountsHold t ⌝ }
     ensures { λ r. ⌜ r ≡ headerLength t ⌝ }
 {
-    let globals = t.globals;
-    8 + (8 + dims_len(t)) + (8 + attrs_len(t, 0, globals)) + (8 + vars_len(t))
+    8 + (8 + dims_len(t)) + (8 + globals_len(t)) + (8 + vars_len(t))
 }

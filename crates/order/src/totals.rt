@@ -4,9 +4,8 @@ ghost use mathlib.Core.Bool.{true};
 ghost use Prim.Native.Nat.{_≤_};
 ghost use Rattle.grammar.specs.Inner.Within.{Shaped};
 ghost use Rattle.model.specs.Model.{idsHold};
-ghost use Rattle.order.specs.Inner.Lengths.{CountsHold};
+ghost use Rattle.order.specs.Inner.Lengths.{headerLength};
 ghost use Rattle.order.specs.Inner.Tests.{attributesTested, sizesTested, sizeTested};
-use crate::length::header_len;
 use grammar::tables::MAX_ATTRS;
 use grammar::tables::MAX_POSITION;
 use grammar::tables::Tables;
@@ -53,11 +52,10 @@ pub(crate) fn sizes_hold(t: Tables) -> bool
 }
 
 // Whether the file's size is from the header's length to 2^62.
-pub(crate) fn size_holds(t: Tables) -> bool
-    requires { ⌜ CountsHold t ⌝ }
+pub(crate) fn size_holds(t: Tables, length: u64) -> bool
+    requires { ⌜ length ≡ headerLength t ⌝ }
     ensures { λ r. ⌜ r ≡ sizeTested t ⌝ }
 {
-    let length = header_len(t);
     if t.size < length {
         return false;
     }

@@ -133,19 +133,15 @@ fn dims_hold(text: &[u8], t: Tables) -> bool
     true
 }
 
-// Whether the `n` attributes from `first` on are in range.
-fn attrs_hold(text: &[u8], t: Tables, first: usize, n: usize) -> bool
-    requires { ⌜ (first + n ≤ t .nattrs) × (rowsInside (now text) t ≡ true) ⌝ }
-    ensures { λ r. ⌜ r ≡ attrsTested (now (text .entry)) (t .attrs) first n ⌝ }
+// Whether the global attributes are in range.
+fn globals_hold(text: &[u8], t: Tables) -> bool
+    requires { ⌜ rowsInside (now text) t ≡ true ⌝ }
+    ensures { λ r. ⌜ r ≡ attrsTested (now (text .entry)) (t .attrs) 0 (t .globals) ⌝ }
 {
-    // an empty list is not worth a copy of the rows
-    if n == 0 {
-        return true;
-    }
     let rows = t.attrs;
     let mut i = 0;
-    while i < n {
-        if !attr_holds(text, rows[first + i]) {
+    while i < t.globals {
+        if !attr_holds(text, rows[i]) {
             return false;
         }
         i += 1;
@@ -153,12 +149,13 @@ fn attrs_hold(text: &[u8], t: Tables, first: usize, n: usize) -> bool
     true
 }
 
-// Whether the variables are in range, with their attributes.
+// Whether the variables are in range, with their attributes, which are tested in place: a call would copy the rows for each variable.
 fn vars_hold(text: &[u8], t: Tables) -> bool
     requires { ⌜ rowsInside (now text) t ≡ true ⌝ }
     ensures { λ r. ⌜ r ≡ varsTested (now (text .entry)) t ⌝ }
 {
     let rows = t.vars;
+    let attrs = t.attrs;
     let version = t.version;
     let mut i = 0;
     while i < t.nvars {
@@ -168,8 +165,12 @@ fn vars_hold(text: &[u8], t: Tables) -> bool
         }
         let first = v.first as usize;
         let n = v.attrs as usize;
-        if !attrs_hold(text, t, first, n) {
-            return false;
+        let mut k = 0;
+        while k < n {
+            if !attr_holds(text, attrs[first + k]) {
+                return false;
+            }
+            k += 1;
         }
         i += 1;
     }
@@ -190,8 +191,7 @@ pub(crate) fn words_hold(text: &[u8], t: Tables) -> bool
     if !dims_hold(text, t) {
         return false;
     }
-    let globals = t.globals;
-    if !attrs_hold(text, t, 0, globals) {
+    if !globals_hold(text, t) {
         return false;
     }
     vars_hold(text, t)

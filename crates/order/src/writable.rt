@@ -2,7 +2,10 @@
 ghost use mathlib.Core.Path.{_≡_};
 ghost use Rattle.order.specs.Writable.{writable};
 ghost use Rattle.order.specs.Inner.Tests.{tested};
+ghost use Rattle.order.specs.Inner.Lengths.{headerLength};
+ghost use mathlib.Core.Bool.{true};
 use crate::inside::rows_inside;
+use crate::length::header_len;
 use crate::totals::attributes_fit;
 use crate::totals::size_holds;
 use crate::totals::sizes_hold;
@@ -10,7 +13,7 @@ use crate::words::words_hold;
 use grammar::tables::Tables;
 use model::rules::model_holds;
 
-// The tests, one after the other.
+// The tests before the size, one after the other.
 fn tested(text: &[u8], t: Tables) -> bool
     ensures { λ r. ⌜ r ≡ tested (now (text .entry)) t ⌝ }
 {
@@ -26,15 +29,29 @@ fn tested(text: &[u8], t: Tables) -> bool
     if !model_holds(text, t) {
         return false;
     }
-    if !sizes_hold(t) {
-        return false;
-    }
-    size_holds(t)
+    sizes_hold(t)
+}
+
+// Whether tables can be written, and if so how long their header is.
+pub struct Verdict {
+    pub writable: bool,
+    pub length: u64,
 }
 
 // Rule 23 of the writer, for tables of the bytes `text`.
-pub fn writable(text: &[u8], t: Tables) -> bool
-    ensures { λ r. ⌜ r ≡ writable (now (text .entry)) t ⌝ }
+pub fn judged(text: &[u8], t: Tables) -> Verdict
+    ensures { λ r. ⌜ (r .writable ≡ writable (now (text .entry)) t) × (r .writable ≡ true → r .length ≡ headerLength t) ⌝ }
 {
-    tested(text, t)
+    if !tested(text, t) {
+        return Verdict {
+            writable: false,
+            length: 0,
+        };
+    }
+    let length = header_len(t);
+    let holds = size_holds(t, length);
+    Verdict {
+        writable: holds,
+        length,
+    }
 }

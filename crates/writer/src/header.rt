@@ -2,8 +2,7 @@
 ghost use Rattle.writer.specs.Writes.{writeHeader, Writes};
 use crate::lists::put_header;
 use grammar::tables::Tables;
-use order::length::header_len;
-use order::writable::writable;
+use order::writable::judged;
 
 // What the writer answers: 0 and the header's length, or the number of a refusal and 0.
 pub struct Written {
@@ -15,13 +14,14 @@ pub struct Written {
 pub fn write_header(t: Tables, text: &[u8], out: &mut [u8]) -> Written
     ensures { λ r. ⌜ Writes (now (out .entry)) (writeHeader (now (text .entry)) t (now (out .entry))) r (now (out .exit)) ⌝ }
 {
-    if !writable(text, t) {
+    let verdict = judged(text, t);
+    if !verdict.writable {
         return Written {
             number: 23,
             length: 0,
         };
     }
-    let length = header_len(t);
+    let length = verdict.length;
     if (out.len() as u64) < length {
         return Written {
             number: 22,

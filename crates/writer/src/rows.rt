@@ -61,7 +61,7 @@ fn value_bytes(code: u64, count: u64) -> usize
     (count * DataType::of_code(code).size_of()) as usize
 }
 
-fn put_attr(out: &mut [u8], at: usize, text: &[u8], a: Attr) -> usize
+pub(crate) fn put_attr(out: &mut [u8], at: usize, text: &[u8], a: Attr) -> usize
     requires { ⌜ AttrIn (now text) a × (at + length (attrOut (now text) a) ≤ length (now out)) ⌝ }
     ensures { λ r. ⌜ Put (now (out .entry)) at (attrOut (now (text .entry)) a) (now (out .exit)) r ⌝ }
 {

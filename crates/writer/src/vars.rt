@@ -11,7 +11,7 @@ use crate::put::put_begin;
 use crate::put::put_name;
 use crate::put::put_start;
 use crate::put::put_word;
-use crate::rows::put_attrs;
+use crate::rows::put_attr;
 use grammar::tables::Attr;
 use grammar::tables::Var;
 
@@ -57,19 +57,7 @@ fn put_tail(out: &mut [u8], at: usize, version: u8, v: Var) -> usize
     put_begin(out, start, version, begin)
 }
 
-// A variable, whose attributes stand among the rows `attrs`.
-fn put_var(out: &mut [u8], at: usize, text: &[u8], version: u8, attrs: [Attr; 128], v: Var) -> usize
-    requires { ⌜ VarIn (now text) attrs v × (at + length (varOut (now text) version attrs v) ≤ length (now out)) ⌝ }
-    ensures { λ r. ⌜ Put (now (out .entry)) at (varOut (now (text .entry)) version attrs v) (now (out .exit)) r ⌝ }
-{
-    let first = v.first as usize;
-    let n = v.attrs as usize;
-    let list = put_shape(out, at, text, v);
-    let kind = put_attrs(out, list, text, attrs, first, n);
-    put_tail(out, kind, version, v)
-}
-
-// The first `n` variables.
+// The first `n` variables, each with its attributes, which are put in place: a call would copy the rows for each variable.
 fn put_var_rows(
     out: &mut [u8],
     at: usize,
@@ -87,7 +75,17 @@ fn put_var_rows(
     let mut i = 0;
     while i < n {
         let v = vars[i];
-        p = put_var(out, p, text, version, attrs, v);
+        let first = v.first as usize;
+        let own = v.attrs as usize;
+        let list = put_shape(out, p, text, v);
+        let mut q = put_start(out, list, 12, own);
+        let mut k = 0;
+        while k < own {
+            let a = attrs[first + k];
+            q = put_attr(out, q, text, a);
+            k += 1;
+        }
+        p = put_tail(out, q, version, v);
         i += 1;
     }
     p

@@ -135,7 +135,7 @@ alike false true h l = l refl
 alike false false h l = refl
 
 module _ (s : List ℕ) (t : Tables) (full : FullRows t) where
-  tested-if : writable s t ≡ true → tested s t ≡ true
+  tested-if : writable s t ≡ true → (tested s t && sizeTested t) ≡ true
   unfolding writable tested countHolds countTested sizesTested sizeHolds
   tested-if e =
       let a = both (rowsInside s t) _ e in
@@ -151,22 +151,23 @@ module _ (s : List ℕ) (t : Tables) (full : FullRows t) where
       let y = range-see (toWrite s t) (c .0) in
       let few : attributesUpto t (t .nvars) ≤ 128 = subst (λ (n : ℕ). n ≤ 128) (attributes-all s t full k) (x .attrs) in
       let size : leb (headerLength t) (t .size) ≡ true = subst (λ (n : ℕ). leb n (t .size) ≡ true) (encoded-length s t full k) (i .0) in
-      and (a .0)
+      and
+      (and (a .0)
       (and (words-tell s t (said-see s t full k x y))
       (and (le-leb (attributesUpto t (t .nvars)) 128 few)
       (and (d .0)
-      (and (and (f .0) (and (g .0) (h .0)))
-      (and size (i .1))))))
+      (and (f .0) (and (g .0) (h .0)))))))
+      (and size (i .1))
 
-  tested-only : tested s t ≡ true → writable s t ≡ true
+  tested-only : (tested s t && sizeTested t) ≡ true → writable s t ≡ true
   unfolding writable tested countHolds countTested sizesTested sizeHolds modelHolds
   tested-only e =
-      let a = both (rowsInside s t) _ e in
+      let f = both (tested s t) (sizeTested t) e in
+      let a = both (rowsInside s t) _ (f .0) in
       let b = both (wordsTested s t) _ (a .1) in
       let c = both (leb (attributesUpto t (t .nvars)) 128) _ (b .1) in
-      let d = both (modelHolds s t) _ (c .1) in
-      let f = both (sizesTested t) (sizeTested t) (d .1) in
-      let g = both (sizesHold t) (countTested t && endsHold t (t .count)) (f .0) in
+      let d = both (modelHolds s t) (sizesTested t) (c .1) in
+      let g = both (sizesHold t) (countTested t && endsHold t (t .count)) (d .1) in
       let h = both (countTested t) (endsHold t (t .count)) (g .1) in
       let i = both (leb (headerLength t) (t .size)) (leb (t .size) maxPosition) (f .1) in
       let m = both (namesHold s t) (oneUnlimited t && idsHold t) (d .0) in
@@ -184,8 +185,13 @@ module _ (s : List ℕ) (t : Tables) (full : FullRows t) where
       (and size (i .1))))))))
 
   -- the code's tests are those of the definition
-  pub tested-is : tested s t ≡ writable s t
-  tested-is = alike (tested s t) (writable s t) tested-only tested-if
+  pub tested-is : (tested s t && sizeTested t) ≡ writable s t
+  tested-is = alike (tested s t && sizeTested t) (writable s t) tested-only tested-if
+
+-- the rows of tables that are tested
+pub tested-rows : (s : List ℕ) (t : Tables) → tested s t ≡ true → rowsInside s t ≡ true
+unfolding tested
+tested-rows s t e = both (rowsInside s t) _ e .0
 
 -- what the tests give to those after them
 pub within : (s : List ℕ) (t : Tables) → rowsInside s t ≡ true → wordsTested s t ≡ true → Within t

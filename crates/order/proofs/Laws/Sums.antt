@@ -2,7 +2,7 @@
 use Prim.Native.Nat.{ℕ, _+_, _*_, _≤_, _<_}
 use native.Mathlib.Omega.{arith}
 use native.Mathlib.Numerals.{add-one}
-use native.Mathlib.Nat.{mul-le-mul-left}
+use native.Mathlib.Nat.{mul-le-mul-left, zero-add}
 use mathlib.Core.Path.{_≡_, refl, sym, ap, _∙_}
 use mathlib.Core.List.{List}
 use lib.ListN.{getD, List·getD-eq-default}
@@ -14,7 +14,7 @@ use Rattle.grammar.specs.declared.tables.Attr.{Attr}
 use Rattle.grammar.specs.declared.tables.Var.{Var}
 use Rattle.grammar.specs.declared.tables.Tables.{Tables}
 use Rattle.sizes.specs.Records.{total}
-use Rattle.order.specs.Inner.Lengths.{nameLength, dimLength, attrLength, attrsLength, varLength, dimsLength, varsLength, headerLength}
+use Rattle.order.specs.Inner.Lengths.{nameLength, dimLength, attrLength, attrsLength, varAlone, varLength, dimsLength, varsLength, headerLength}
 
 -- no type has the code 0, or one above 6
 pub size-none : (code : ℕ) → code < 1 → 0 ≡ sizeOf code
@@ -37,9 +37,9 @@ unfolding total
 sum-more g i e f = rw (add-one, e, f)
 
 -- the lengths of lists, and of what they are made of
-pub attrs-none : (rows : List Attr) (first : ℕ) {n : ℕ} → n ≡ 0 → 0 ≡ attrsLength rows first n
-unfolding attrsLength total
-attrs-none rows first e = rw e
+-- the rows of the global attributes start at 0
+pub length-from-zero : (rows : List Attr) (i : ℕ) {x : ℕ} → x ≡ attrLength (getD rows i noAttr) → x ≡ attrLength (getD rows (0 + i) noAttr)
+length-from-zero rows i e = e ∙ sym (ap (λ k. attrLength (getD rows k noAttr)) (zero-add i))
 
 pub attrs-all : (rows : List Attr) (first : ℕ) {i n x : ℕ} → i ≡ n → x ≡ total (λ j. attrLength (getD rows (first + j) noAttr)) i → x ≡ attrsLength rows first n
 unfolding attrsLength
@@ -57,10 +57,13 @@ pub vars-all : (t : Tables) {i x : ℕ} → i ≡ t .nvars → x ≡ total (λ j
 unfolding varsLength
 vars-all t e f = f ∙ ap (total (λ j. varLength t (varAt t j))) e
 
-pub var-by : (t : Tables) (v : Var) {n a b : ℕ} → n ≡ nameLength (v .chars) → a ≡ attrsLength (t .attrs) (v .first) (v .attrs) → b ≡ form (t .version) .beginBytes
-    → n + 4 + 4 * v .rank + 8 + a + 8 + b ≡ varLength t v
+pub var-by : (version : ℕ) (v : Var) {n b : ℕ} → n ≡ nameLength (v .chars) → b ≡ form version .beginBytes → n + 4 + 4 * v .rank + 8 + 8 + b ≡ varAlone version v
+var-by version v e g = rw (e, g)
+
+-- what is read of a variable, and its attributes
+pub var-all : (t : Tables) (v : Var) {x y : ℕ} → x ≡ varAlone (t .version) v → y ≡ attrsLength (t .attrs) (v .first) (v .attrs) → x + y ≡ varLength t v
 unfolding varLength
-var-by t v e f g = rw (e, f, g)
+var-all t v e f = rw (e, f)
 
 pub header-by : (t : Tables) {d a v : ℕ} → d ≡ dimsLength t → a ≡ attrsLength (t .attrs) 0 (t .globals) → v ≡ varsLength t → 8 + (8 + d) + (8 + a) + (8 + v) ≡ headerLength t
 unfolding headerLength

@@ -2,11 +2,11 @@
 use Prim.Native.Nat.{ℕ, _+_, _*_, _≤_, _<_}
 use native.Mathlib.Omega.{arith}
 use native.Mathlib.Nat.{zero-add}
-use mathlib.Core.Path.{_≡_, refl, sym, subst}
+use mathlib.Core.Path.{_≡_, refl, sym, subst, ap, _∙_}
 use mathlib.Core.Bool.{Bool, true, false, _&&_, _||_, or-true}
 use mathlib.Core.Logic.{_⊎_, inl, inr, ⊎-elim}
 use mathlib.Core.List.{List}
-use lib.ListN.{length}
+use lib.ListN.{length, getD}
 use lib.Dec.{ltb, leb, eqb}
 use borrow.Author.Tests.{lt-ltb, ltb-true, le-leb, leb-true, eq-eqb, eqb-true}
 use Rattle.bigendian.specs.Number.{half}
@@ -18,7 +18,7 @@ use Rattle.cdf.proofs.Laws.Below.{both, all-hold, holds-at}
 use Rattle.items.specs.Name.{part}
 use Rattle.items.specs.Types.{sizeOf}
 use Rattle.items.specs.Utf8.{utf8}
-use Rattle.grammar.specs.Tables.{dimAt, attrAt, varAt}
+use Rattle.grammar.specs.Tables.{noAttr, dimAt, attrAt, varAt}
 use Rattle.grammar.specs.Meaning.{Variable, dimension, attribute, variable, itemOf}
 use Rattle.grammar.specs.declared.tables.Dim.{Dim}
 use Rattle.grammar.specs.declared.tables.Attr.{Attr}
@@ -159,3 +159,7 @@ module _ (s : List ℕ) (t : Tables) where
       each i k =
           let a = both (varTested s (t .version) (varAt t i)) (allBelow (varAt t i .attrs) (λ j. attrTested s (attrAt t (varAt t i .first + j)))) k in
           (a .0, λ j l. holds-at (λ j. attrTested s (attrAt t (varAt t i .first + j))) (varAt t i .attrs) j (a .1) l)
+
+-- the rows of the global attributes start at 0
+pub tested-from-zero : (s : List ℕ) (rows : List Attr) (i : ℕ) {b : Bool} → attrTested s (getD rows i noAttr) ≡ b → attrTested s (getD rows (0 + i) noAttr) ≡ b
+tested-from-zero s rows i e = ap (λ k. attrTested s (getD rows k noAttr)) (zero-add i) ∙ e

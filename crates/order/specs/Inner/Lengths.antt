@@ -32,9 +32,13 @@ attrLength a = nameLength (a .chars) + 8 + paddedLength (a .count * sizeOf (a .c
 unfoldable pub attrsLength : List Attr → ℕ → ℕ → ℕ
 attrsLength rows first n = total (λ j. attrLength (getD rows (first + j) noAttr)) n
 
--- a variable: its name, its number of dimensions, its ids, its attributes, its type, its vsize, its begin
+-- a variable without its attributes: its name, its number of dimensions, its ids, the start of its list, its type, its vsize, its begin
+abbrev pub varAlone : ℕ → Var → ℕ
+varAlone version v = nameLength (v .chars) + 4 + 4 * v .rank + 8 + 8 + form version .beginBytes
+
+-- a variable
 unfoldable pub varLength : Tables → Var → ℕ
-varLength t v = nameLength (v .chars) + 4 + 4 * v .rank + 8 + attrsLength (t .attrs) (v .first) (v .attrs) + 8 + form (t .version) .beginBytes
+varLength t v = varAlone (t .version) v + attrsLength (t .attrs) (v .first) (v .attrs)
 
 -- the dimensions
 unfoldable pub dimsLength : Tables → ℕ

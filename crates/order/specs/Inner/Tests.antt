@@ -106,12 +106,11 @@ sizesTested t = sizesHold t && (countTested t && endsHold t (t .count))
 abbrev pub sizeTested : Tables → Bool
 sizeTested t = leb (headerLength t) (t .size) && leb (t .size) maxPosition
 
--- all that the code tests
+-- all that the code tests before the size
 unfoldable pub tested : List ℕ → Tables → Bool
 tested s t =
     rowsInside s t
     && (wordsTested s t
     && (attributesTested t
     && (modelHolds s t
-    && (sizesTested t
-    && sizeTested t))))
+    && sizesTested t)))

@@ -3,7 +3,7 @@ use Prim.Native.Nat.{ℕ, _+_, _/_, _%_, _≤_, _<_}
 use native.Mathlib.Omega.{arith}
 use mathlib.Core.Path.{_≡_, refl}
 use mathlib.Core.List.{List, [], _∷_, _++_}
-use lib.ListN.{length, take, length-append}
+use lib.ListN.{length, take, drop, length-append}
 use Rattle.cdf.specs.Form.{form}
 use Rattle.items.specs.Name.{part}
 use Rattle.grammar.specs.declared.tables.Attr.{Attr}
@@ -13,8 +13,9 @@ use Rattle.rules.specs.Rules.{spelled}
 use Rattle.rules.specs.Encode.{each, nameBytes}
 use Rattle.rules.proofs.Laws.Spelled.{length-spelled}
 use Rattle.writer.specs.Inner.Put.{Put}
-use Rattle.writer.specs.Inner.Parts.{startBytes, dimOut, shapeOut, tailOut, attrsOut, varOut, listsOut, headerOut}
-use Rattle.writer.proofs.Laws.Put.{put-then, put-is}
+use Rattle.writer.specs.Inner.Parts.{startBytes, dimOut, attrOut, shapeOut, tailOut, attrsOut, varOut, listsOut, headerOut}
+use Rattle.writer.proofs.Laws.Put.{put-then, put-is, length-start}
+use Rattle.writer.proofs.Laws.Rows.{put-list, length-list}
 
 -- two and three parts one after the other
 pub put-two : {s t u : List ℕ} {i j k : ℕ} (x y : List ℕ) → i + length (x ++ y) ≤ length s → Put s i x t j → Put t j y u k → Put s i (x ++ y) u k
@@ -45,14 +46,40 @@ module _ (s : List ℕ) where
       let a = length-spelled 4 (v .rank) in
       omega arith
 
-  pub length-var : (version : ℕ) (xs : List Attr) (v : Var) → length (varOut s version xs v) ≡ length (shapeOut s v) + (length (attrsOut s xs (v .first) (v .attrs)) + length (tailOut version v))
-  unfolding varOut
-  length-var version xs v = length-three (shapeOut s v) (attrsOut s xs (v .first) (v .attrs)) (tailOut version v)
+  -- the parts of a variable's row, and room for each where there is room for all
+  module _ (version : ℕ) (xs : List Attr) (v : Var) where
+    -- its attributes without the start of their list
+    abbrev pub itemsOut : List ℕ
+    itemsOut = each (attrOut s) (take (v .attrs) (drop (v .first) xs))
 
-  pub put-var : {o t u w : List ℕ} {i j k l : ℕ} (version : ℕ) (xs : List Attr) (v : Var) → i + length (varOut s version xs v) ≤ length o → length t ≡ length o → Put o i (shapeOut s v) t j
-      → Put t j (attrsOut s xs (v .first) (v .attrs)) u k → Put u k (tailOut version v) w l → Put o i (varOut s version xs v) w l
-  unfolding varOut
-  put-var version xs v room same f g h = put-three (shapeOut s v) (attrsOut s xs (v .first) (v .attrs)) (tailOut version v) room same f g h
+    length-var : length (varOut s version xs v) ≡ length (shapeOut s v) + (8 + length itemsOut + length (tailOut version v))
+    unfolding varOut
+    length-var =
+        let l = length-three (shapeOut s v) (attrsOut s xs (v .first) (v .attrs)) (tailOut version v) in
+        let m = length-list 0x0C (v .attrs) itemsOut in
+        omega arith
+
+    module _ {room : ℕ} (i : ℕ) (fits : i + length (varOut s version xs v) ≤ room) where
+      pub shape-room : i + length (shapeOut s v) ≤ room
+      shape-room = let l = length-var in omega arith
+
+      pub start-room : {j : ℕ} → j ≡ i + length (shapeOut s v) → j + 8 ≤ room
+      start-room e = let l = length-var in omega arith
+
+      pub items-room : {j k : ℕ} → j ≡ i + length (shapeOut s v) → k ≡ j + length (startBytes 0x0C (v .attrs)) → k + length itemsOut ≤ room
+      items-room e f = let l = length-var in let m = length-start 0x0C (v .attrs) in omega arith
+
+      pub tail-room : {j k m : ℕ} → j ≡ i + length (shapeOut s v) → k ≡ j + length (startBytes 0x0C (v .attrs)) → m ≡ k + length itemsOut → m + length (tailOut version v) ≤ room
+      tail-room e f g = let l = length-var in let n = length-start 0x0C (v .attrs) in omega arith
+
+    pub put-var : {o t u w x : List ℕ} {i j k l m : ℕ} → i + length (varOut s version xs v) ≤ length o → length t ≡ length o → Put o i (shapeOut s v) t j → Put t j (startBytes 0x0C (v .attrs)) u k
+        → Put u k itemsOut w l → Put w l (tailOut version v) x m → Put o i (varOut s version xs v) x m
+    unfolding varOut
+    put-var room same f g h e =
+        let n = length-var in
+        let a = length-list 0x0C (v .attrs) itemsOut in
+        let p = f .place in
+        put-three (shapeOut s v) (attrsOut s xs (v .first) (v .attrs)) (tailOut version v) room same f (put-list 0x0C (v .attrs) itemsOut (omega arith) g h) e
 
 -- CDF and a version as a word
 spelled-magic : (v : ℕ) → v < 256 → spelled 4 (1128547840 + v) ≡ 0x43 ∷ 0x44 ∷ 0x46 ∷ v ∷ []

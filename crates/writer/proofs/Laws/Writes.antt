@@ -18,8 +18,8 @@ use Rattle.grammar.specs.declared.tables.Attr.{Attr}
 use Rattle.grammar.specs.declared.tables.Tables.{Tables}
 use Rattle.rules.specs.Encode.{encode}
 use Rattle.order.specs.Writable.{rowsInside, toWrite, writable}
-use Rattle.order.specs.Inner.Tests.{nameTested, codeTested, attrTested, wordsTested, tested}
-use Rattle.order.specs.Inner.Lengths.{headerLength, CountsHold}
+use Rattle.order.specs.Inner.Tests.{nameTested, codeTested, attrTested, wordsTested, sizeTested, tested}
+use Rattle.order.specs.Inner.Lengths.{headerLength}
 use Rattle.order.proofs.Laws.Inside.{Inside, inside}
 use Rattle.order.proofs.Laws.Rows.{FullRows}
 use Rattle.order.proofs.Laws.Words.{words-see}
@@ -51,14 +51,11 @@ module _ (s : List ℕ) (t : Tables) (out : List ℕ) where
 -- tables that can be written have their rows inside the text
 module _ (s : List ℕ) (t : Tables) (full : FullRows t) (ok : writable s t ≡ true) where
   seen : tested s t ≡ true
-  seen = tested-is s t full ∙ ok
+  seen = both (tested s t) (sizeTested t) (tested-is s t full ∙ ok) .0
 
   rows : Inside s t
   unfolding tested
   rows = inside (both (rowsInside s t) _ seen .0)
-
-  pub counts-hold : CountsHold t
-  counts-hold = rows .counted
 
   attr-in : (i : ℕ) → i < t .nattrs → attrTested s (attrAt t i) ≡ true → AttrIn s (attrAt t i)
   unfolding attrTested

@@ -12,8 +12,8 @@ add-result c = search needs
 add-result-2 : tie.Need-add-result-2
 add-result-2 c = search needs
 
-attrs-len-requires : tie.Need-attrs-len-requires
-attrs-len-requires c κs = search needs
+globals-len-requires : tie.Need-globals-len-requires
+globals-len-requires c κs = search needs
 
 add-result-3 : tie.Need-add-result-3
 add-result-3 c = search needs
@@ -31,7 +31,7 @@ add-result-6 : tie.Need-add-result-6
 add-result-6 c = search needs
 
 returns : tie.Need-returns
-returns c = header-by (c .before .before .before .args .t) (c .before .before .dims-len .ensures .0) (c .before .attrs-len .ensures .0) (c .vars-len .ensures .0)
+returns c = header-by (c .before .before .before .args .t) (c .before .before .dims-len .ensures .0) (c .before .globals-len .ensures .0) (c .vars-len .ensures .0)
 
 pub header-len-spec : {M : Type 1} → statement M
 header-len-spec =
@@ -40,7 +40,7 @@ header-len-spec =
     dims-len-requires
     add-result
     add-result-2
-    attrs-len-requires
+    globals-len-requires
     add-result-3
     add-result-4
     vars-len-requires

@@ -27,19 +27,19 @@ returns-3 : tie.Need-returns-3
 unfolding wordsTested
 returns-3 c = passed (holds (c .before .before .before .before .before .version-holds .ensures) (c .before .before .before .before .if1 .left)) (passed (holds (c .before .before .before .open-holds .ensures) (c .before .before .if2 .left)) (ended _ (fails (c .before .dims-hold .ensures) (c .if3 .taken))))
 
-attrs-hold-requires : tie.Need-attrs-hold-requires
-attrs-hold-requires c κs = let h = inside (c .before .before .before .before .before .before .before .pre) .counted .globals in (omega arith, c .before .before .before .before .before .before .before .pre)
+globals-hold-requires : tie.Need-globals-hold-requires
+globals-hold-requires c κs = c .before .before .before .before .before .before .before .pre
 
 returns-4 : tie.Need-returns-4
 unfolding wordsTested
-returns-4 c = passed (holds (c .before .before .before .before .before .before .before .version-holds .ensures) (c .before .before .before .before .before .before .if1 .left)) (passed (holds (c .before .before .before .before .before .open-holds .ensures) (c .before .before .before .before .if2 .left)) (passed (holds (c .before .before .before .dims-hold .ensures) (c .before .before .if3 .left)) (ended _ (fails (c .before .attrs-hold .ensures) (c .if4 .taken)))))
+returns-4 c = passed (holds (c .before .before .before .before .before .before .before .version-holds .ensures) (c .before .before .before .before .before .before .if1 .left)) (passed (holds (c .before .before .before .before .before .open-holds .ensures) (c .before .before .before .before .if2 .left)) (passed (holds (c .before .before .before .dims-hold .ensures) (c .before .before .if3 .left)) (ended _ (fails (c .before .globals-hold .ensures) (c .if4 .taken)))))
 
 vars-hold-requires : tie.Need-vars-hold-requires
 vars-hold-requires c κs = search needs
 
 returns-5 : tie.Need-returns-5
 unfolding wordsTested
-returns-5 c = passed (holds (c .before .before .before .before .before .before .before .before .version-holds .ensures) (c .before .before .before .before .before .before .before .if1 .left)) (passed (holds (c .before .before .before .before .before .before .open-holds .ensures) (c .before .before .before .before .before .if2 .left)) (passed (holds (c .before .before .before .before .dims-hold .ensures) (c .before .before .before .if3 .left)) (passed (holds (c .before .before .attrs-hold .ensures) (c .before .if4 .left)) (c .vars-hold .ensures))))
+returns-5 c = passed (holds (c .before .before .before .before .before .before .before .before .version-holds .ensures) (c .before .before .before .before .before .before .before .if1 .left)) (passed (holds (c .before .before .before .before .before .before .open-holds .ensures) (c .before .before .before .before .before .if2 .left)) (passed (holds (c .before .before .before .before .dims-hold .ensures) (c .before .before .before .if3 .left)) (passed (holds (c .before .before .globals-hold .ensures) (c .before .if4 .left)) (c .vars-hold .ensures))))
 
 pub words-hold-spec : {M : Type 1} → statement M
 words-hold-spec =
@@ -51,7 +51,7 @@ words-hold-spec =
     returns-2
     dims-hold-requires
     returns-3
-    attrs-hold-requires
+    globals-hold-requires
     returns-4
     vars-hold-requires
     returns-5)

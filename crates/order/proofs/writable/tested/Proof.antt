@@ -41,14 +41,7 @@ sizes-hold-requires c κs = (within-shaped (within _ _ (holds (c .before .before
 
 returns-5 : tie.Need-returns-5
 unfolding tested
-returns-5 c = passed (holds (c .before .before .before .before .before .before .before .before .before .rows-inside .ensures) (c .before .before .before .before .before .before .before .before .if1 .left)) (passed (holds (c .before .before .before .before .before .before .before .words-hold .ensures) (c .before .before .before .before .before .before .if2 .left)) (passed (holds (c .before .before .before .before .before .attributes-fit .ensures) (c .before .before .before .before .if3 .left)) (passed (holds (c .before .before .before .model-holds .ensures) (c .before .before .if4 .left)) (ended _ (fails (c .before .sizes-hold .ensures) (c .if5 .taken))))))
-
-size-holds-requires : tie.Need-size-holds-requires
-size-holds-requires c κs = inside (holds (c .before .before .before .before .before .before .before .before .before .rows-inside .ensures) (c .before .before .before .before .before .before .before .before .if1 .left)) .counted
-
-returns-6 : tie.Need-returns-6
-unfolding tested
-returns-6 c = passed (holds (c .before .before .before .before .before .before .before .before .before .before .rows-inside .ensures) (c .before .before .before .before .before .before .before .before .before .if1 .left)) (passed (holds (c .before .before .before .before .before .before .before .before .words-hold .ensures) (c .before .before .before .before .before .before .before .if2 .left)) (passed (holds (c .before .before .before .before .before .before .attributes-fit .ensures) (c .before .before .before .before .before .if3 .left)) (passed (holds (c .before .before .before .before .model-holds .ensures) (c .before .before .before .if4 .left)) (passed (holds (c .before .before .sizes-hold .ensures) (c .before .if5 .left)) (c .size-holds .ensures)))))
+returns-5 c = passed (holds (c .before .before .before .before .before .before .before .before .rows-inside .ensures) (c .before .before .before .before .before .before .before .if1 .left)) (passed (holds (c .before .before .before .before .before .before .words-hold .ensures) (c .before .before .before .before .before .if2 .left)) (passed (holds (c .before .before .before .before .attributes-fit .ensures) (c .before .before .before .if3 .left)) (passed (holds (c .before .before .model-holds .ensures) (c .before .if4 .left)) (c .sizes-hold .ensures))))
 
 pub tested-spec : {M : Type 1} → statement M
 tested-spec =
@@ -63,6 +56,4 @@ tested-spec =
     model-holds-requires
     returns-4
     sizes-hold-requires
-    returns-5
-    size-holds-requires
-    returns-6)
+    returns-5)

@@ -5,25 +5,19 @@ use lib.ListN.{getD}
 use Rattle.sizes.specs.Records.{total}
 use Rattle.grammar.specs.Tables.{noAttr}
 use Rattle.order.specs.Inner.Lengths.{attrLength}
-use Rattle.order.proofs.Laws.Sums.{sum-none, sum-more, attrs-none, attrs-all}
+use Rattle.order.proofs.Laws.Sums.{sum-none, sum-more, length-from-zero, attrs-all}
 use borrow.Author.Needs.{needs}
-use Rattle.order.proofs.length.attrs_len.Statement.{statement}
-use Rattle.order.proofs.length.attrs_len.Tie as tie
+use Rattle.order.proofs.length.globals_len.Statement.{statement}
+use Rattle.order.proofs.length.globals_len.Tie as tie
 
 abbrev Inv-loop : tie.InvT-loop
-Inv-loop first n rows sum₀ i₀ sum i = (i ≤ n) × (first + n ≤ 128) × (sum ≤ i * 68719476736) × (sum ≡ total (λ j. attrLength (getD rows (first + j) noAttr)) i)
+Inv-loop t rows sum₀ i₀ sum i = (i ≤ t .globals) × (t .globals ≤ 128) × (sum ≤ i * 68719476736) × (sum ≡ total (λ j. attrLength (getD (t .attrs) (0 + j) noAttr)) i)
 
 abbrev μ-loop : tie.MeasureT-loop
-μ-loop first n rows sum₀ i₀ sum i = n - i
-
-returns : tie.Need-returns Inv-loop μ-loop
-returns c = (attrs-none _ _ (c .if1 .taken), search needs)
+μ-loop t rows sum₀ i₀ sum i = t .globals - i
 
 loop-holds : tie.Need-loop-holds Inv-loop μ-loop
 loop-holds c = (omega arith, search needs, omega arith, sum-none _)
-
-add-attr-len : tie.Need-add-attr-len Inv-loop μ-loop
-add-attr-len c = search needs
 
 mul-attr-len : tie.Need-mul-attr-len Inv-loop μ-loop
 mul-attr-len c = search needs
@@ -44,20 +38,18 @@ loop-less : tie.Need-loop-less Inv-loop μ-loop
 loop-less c = search needs
 
 loop-again : tie.Need-loop-again Inv-loop μ-loop
-loop-again c = (omega arith, search needs, search needs, sum-more _ _ (c .before .before .before .loop .inv .3) (c .attr-len .ensures .0))
+loop-again c = (omega arith, search needs, search needs, sum-more _ _ (c .before .before .before .before .loop .inv .3) (length-from-zero (c .before .before .before .before .before .before .args .t .attrs) (c .before .before .before .before .loop .i) (c .attr-len .ensures .0)))
 
-returns-2 : tie.Need-returns-2 Inv-loop μ-loop
-returns-2 c = (attrs-all _ _ (omega arith) (c .before .loop .inv .3), search needs)
+returns : tie.Need-returns Inv-loop μ-loop
+returns c = (attrs-all _ _ (omega arith) (c .before .before .loop .inv .3), search needs)
 
-pub attrs-len-spec : {M : Type 1} → statement M
-attrs-len-spec =
+pub globals-len-spec : {M : Type 1} → statement M
+globals-len-spec =
     tie.close
     (tie.spec
     Inv-loop
     μ-loop
-    returns
     loop-holds
-    add-attr-len
     mul-attr-len
     array-copy-out-attr-len
     attr-len-requires
@@ -65,4 +57,4 @@ attrs-len-spec =
     add-i
     loop-less
     loop-again
-    returns-2)
+    returns)
