@@ -4,13 +4,10 @@ ghost use lib.ListN.{length};
 ghost use Rattle.writer.specs.Inner.Put.{Put};
 ghost use Rattle.writer.specs.Inner.Parts.{listsOut, headerOut, RowsIn};
 use crate::put::put_word;
-use crate::rows::put_attrs;
 use crate::rows::put_dims;
+use crate::rows::put_globals;
 use crate::vars::put_vars;
-use grammar::tables::Attr;
-use grammar::tables::Dim;
 use grammar::tables::Tables;
-use grammar::tables::Var;
 
 // `CDF` and no version.
 const MAGIC: u64 = 0x4344_4600;
@@ -20,16 +17,9 @@ fn put_lists(out: &mut [u8], at: usize, text: &[u8], t: Tables) -> usize
     requires { ⌜ RowsIn (now text) t × (at + length (listsOut (now text) t) ≤ length (now out)) ⌝ }
     ensures { λ r. ⌜ Put (now (out .entry)) at (listsOut (now (text .entry)) t) (now (out .exit)) r ⌝ }
 {
-    let version = t.version;
-    let dims = t.dims;
-    let ndims = t.ndims;
-    let attrs = t.attrs;
-    let globals = t.globals;
-    let vars = t.vars;
-    let nvars = t.nvars;
-    let second = put_dims(out, at, text, dims, ndims);
-    let third = put_attrs(out, second, text, attrs, 0, globals);
-    put_vars(out, third, text, version, attrs, vars, nvars)
+    let second = put_dims(out, at, text, t);
+    let third = put_globals(out, second, text, t);
+    put_vars(out, third, text, t)
 }
 
 // The whole header, at the output's start.

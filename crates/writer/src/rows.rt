@@ -1,19 +1,18 @@
-// Dimensions and attributes, put into an output as the format has them.
-ghost use Prim.Native.Nat.{ℕ, _+_, _*_, _≤_, _<_};
-ghost use mathlib.Core.List.{_++_};
+// Dimensions and attributes, put into an output as the format has them. The rows are taken out of the tables where they are needed, once:
+// tables that go by value are not copied, rows of them are.
+ghost use Prim.Native.Nat.{_+_, _*_, _≤_, _<_};
 ghost use mathlib.Core.Path.{_≡_};
-ghost use lib.ListN.{length, take, drop, getD};
-ghost use Rattle.grammar.specs.Tables.{noDim, noAttr};
+ghost use lib.ListN.{length};
 ghost use Rattle.items.specs.Types.{sizeOf};
-ghost use Rattle.rules.specs.Encode.{each};
 ghost use Rattle.writer.specs.Inner.Put.{Put};
-ghost use Rattle.writer.specs.Inner.Parts.{startBytes, dimOut, attrOut, attrsOut, AttrIn};
+ghost use Rattle.writer.specs.Inner.Parts.{dimOut, attrOut, dimsOut, dimsPart, globalsOut, globalsPart, AttrIn, RowsIn};
 use crate::put::put_name;
 use crate::put::put_padded;
 use crate::put::put_start;
 use crate::put::put_word;
 use grammar::tables::Attr;
 use grammar::tables::Dim;
+use grammar::tables::Tables;
 use items::types::DataType;
 
 fn put_dim(out: &mut [u8], at: usize, text: &[u8], d: Dim) -> usize
@@ -27,30 +26,29 @@ fn put_dim(out: &mut [u8], at: usize, text: &[u8], d: Dim) -> usize
     put_word(out, end, length)
 }
 
-// The first `n` dimensions.
-fn put_dim_rows(out: &mut [u8], at: usize, text: &[u8], dims: [Dim; 32], n: usize) -> usize
-    requires { ⌜ (n ≤ 32) × (at + length (each (dimOut (now text)) (take n dims)) ≤ length (now out)) ⌝ }
-    requires { ⌜ ((i : ℕ) → i < n → getD dims i noDim .name + getD dims i noDim .chars ≤ length (now text)) ⌝ }
-    ensures { λ r. ⌜ Put (now (out .entry)) at (each (dimOut (now (text .entry))) (take n dims)) (now (out .exit)) r ⌝ }
+fn put_dim_rows(out: &mut [u8], at: usize, text: &[u8], t: Tables) -> usize
+    requires { ⌜ RowsIn (now text) t × (at + length (dimsOut (now text) t) ≤ length (now out)) ⌝ }
+    ensures { λ r. ⌜ Put (now (out .entry)) at (dimsOut (now (text .entry)) t) (now (out .exit)) r ⌝ }
 {
+    let rows = t.dims;
+    let n = t.ndims;
     let mut p = at;
     let mut i = 0;
     while i < n {
-        let d = dims[i];
+        let d = rows[i];
         p = put_dim(out, p, text, d);
         i += 1;
     }
     p
 }
 
-// The list of the first `n` dimensions.
-pub(crate) fn put_dims(out: &mut [u8], at: usize, text: &[u8], dims: [Dim; 32], n: usize) -> usize
-    requires { ⌜ (n ≤ 32) × (at + length (startBytes 10 n ++ each (dimOut (now text)) (take n dims)) ≤ length (now out)) ⌝ }
-    requires { ⌜ ((i : ℕ) → i < n → getD dims i noDim .name + getD dims i noDim .chars ≤ length (now text)) ⌝ }
-    ensures { λ r. ⌜ Put (now (out .entry)) at (startBytes 10 n ++ each (dimOut (now (text .entry))) (take n dims)) (now (out .exit)) r ⌝ }
+// The list of dimensions.
+pub(crate) fn put_dims(out: &mut [u8], at: usize, text: &[u8], t: Tables) -> usize
+    requires { ⌜ RowsIn (now text) t × (at + length (dimsPart (now text) t) ≤ length (now out)) ⌝ }
+    ensures { λ r. ⌜ Put (now (out .entry)) at (dimsPart (now (text .entry)) t) (now (out .exit)) r ⌝ }
 {
-    let first = put_start(out, at, 10, n);
-    put_dim_rows(out, first, text, dims, n)
+    let first = put_start(out, at, 10, t.ndims);
+    put_dim_rows(out, first, text, t)
 }
 
 // The bytes of `count` values of the type of a code.
@@ -77,42 +75,31 @@ pub(crate) fn put_attr(out: &mut [u8], at: usize, text: &[u8], a: Attr) -> usize
     put_padded(out, start, &text[values..values + bytes])
 }
 
-// The `n` attributes from the row `first` on.
-fn put_attr_rows(
-    out: &mut [u8],
-    at: usize,
-    text: &[u8],
-    attrs: [Attr; 128],
-    first: usize,
-    n: usize,
-) -> usize
-    requires { ⌜ (first + n ≤ 128) × (at + length (each (attrOut (now text)) (take n (drop first attrs))) ≤ length (now out)) ⌝ }
-    requires { ⌜ ((i : ℕ) → i < n → AttrIn (now text) (getD attrs (first + i) noAttr)) ⌝ }
-    ensures { λ r. ⌜ Put (now (out .entry)) at (each (attrOut (now (text .entry))) (take n (drop first attrs))) (now (out .exit)) r ⌝ }
+fn put_global_rows(out: &mut [u8], at: usize, text: &[u8], t: Tables) -> usize
+    requires { ⌜ RowsIn (now text) t × (at + length (globalsOut (now text) t) ≤ length (now out)) ⌝ }
+    ensures { λ r. ⌜ Put (now (out .entry)) at (globalsOut (now (text .entry)) t) (now (out .exit)) r ⌝ }
 {
+    let n = t.globals;
+    // an empty list is not worth a copy of the rows
+    if n == 0 {
+        return at;
+    }
+    let rows = t.attrs;
     let mut p = at;
     let mut i = 0;
     while i < n {
-        let a = attrs[first + i];
+        let a = rows[i];
         p = put_attr(out, p, text, a);
         i += 1;
     }
     p
 }
 
-// The list of the `n` attributes from the row `first` on.
-pub(crate) fn put_attrs(
-    out: &mut [u8],
-    at: usize,
-    text: &[u8],
-    attrs: [Attr; 128],
-    first: usize,
-    n: usize,
-) -> usize
-    requires { ⌜ (first + n ≤ 128) × (at + length (attrsOut (now text) attrs first n) ≤ length (now out)) ⌝ }
-    requires { ⌜ ((i : ℕ) → i < n → AttrIn (now text) (getD attrs (first + i) noAttr)) ⌝ }
-    ensures { λ r. ⌜ Put (now (out .entry)) at (attrsOut (now (text .entry)) attrs first n) (now (out .exit)) r ⌝ }
+// The list of global attributes.
+pub(crate) fn put_globals(out: &mut [u8], at: usize, text: &[u8], t: Tables) -> usize
+    requires { ⌜ RowsIn (now text) t × (at + length (globalsPart (now text) t) ≤ length (now out)) ⌝ }
+    ensures { λ r. ⌜ Put (now (out .entry)) at (globalsPart (now (text .entry)) t) (now (out .exit)) r ⌝ }
 {
-    let start = put_start(out, at, 12, n);
-    put_attr_rows(out, start, text, attrs, first, n)
+    let first = put_start(out, at, 12, t.globals);
+    put_global_rows(out, first, text, t)
 }

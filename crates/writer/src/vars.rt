@@ -1,18 +1,17 @@
 // Variables, put into an output as the format has them.
-ghost use Prim.Native.Nat.{ℕ, _+_, _≤_, _<_};
-ghost use mathlib.Core.List.{_++_};
-ghost use lib.ListN.{length, take, getD};
-ghost use Rattle.grammar.specs.Tables.{noVar};
+ghost use Prim.Native.Nat.{_+_, _≤_};
+ghost use lib.ListN.{length, take};
 ghost use Rattle.rules.specs.Rules.{spelled};
 ghost use Rattle.rules.specs.Encode.{each};
 ghost use Rattle.writer.specs.Inner.Put.{Put};
-ghost use Rattle.writer.specs.Inner.Parts.{startBytes, shapeOut, tailOut, varOut, VarIn};
+ghost use Rattle.writer.specs.Inner.Parts.{shapeOut, tailOut, varsOut, varsPart, RowsIn};
 use crate::put::put_begin;
 use crate::put::put_name;
 use crate::put::put_start;
 use crate::put::put_word;
 use crate::rows::put_attr;
 use grammar::tables::Attr;
+use grammar::tables::Tables;
 use grammar::tables::Var;
 
 // The first `rank` ids.
@@ -57,24 +56,19 @@ fn put_tail(out: &mut [u8], at: usize, version: u8, v: Var) -> usize
     put_begin(out, start, version, begin)
 }
 
-// The first `n` variables, each with its attributes, which are put in place: a call would copy the rows for each variable.
-fn put_var_rows(
-    out: &mut [u8],
-    at: usize,
-    text: &[u8],
-    version: u8,
-    attrs: [Attr; 128],
-    vars: [Var; 64],
-    n: usize,
-) -> usize
-    requires { ⌜ (n ≤ 64) × (at + length (each (varOut (now text) version attrs) (take n vars)) ≤ length (now out)) ⌝ }
-    requires { ⌜ ((i : ℕ) → i < n → VarIn (now text) attrs (getD vars i noVar)) ⌝ }
-    ensures { λ r. ⌜ Put (now (out .entry)) at (each (varOut (now (text .entry)) version attrs) (take n vars)) (now (out .exit)) r ⌝ }
+// The variables, each with its attributes, which are put in place: a call would copy the rows for each variable.
+fn put_var_rows(out: &mut [u8], at: usize, text: &[u8], t: Tables) -> usize
+    requires { ⌜ RowsIn (now text) t × (at + length (varsOut (now text) t) ≤ length (now out)) ⌝ }
+    ensures { λ r. ⌜ Put (now (out .entry)) at (varsOut (now (text .entry)) t) (now (out .exit)) r ⌝ }
 {
+    let version = t.version;
+    let n = t.nvars;
+    let attrs = t.attrs;
+    let rows = t.vars;
     let mut p = at;
     let mut i = 0;
     while i < n {
-        let v = vars[i];
+        let v = rows[i];
         let first = v.first as usize;
         let own = v.attrs as usize;
         let list = put_shape(out, p, text, v);
@@ -91,20 +85,11 @@ fn put_var_rows(
     p
 }
 
-// The list of the first `n` variables.
-pub(crate) fn put_vars(
-    out: &mut [u8],
-    at: usize,
-    text: &[u8],
-    version: u8,
-    attrs: [Attr; 128],
-    vars: [Var; 64],
-    n: usize,
-) -> usize
-    requires { ⌜ (n ≤ 64) × (at + length (startBytes 11 n ++ each (varOut (now text) version attrs) (take n vars)) ≤ length (now out)) ⌝ }
-    requires { ⌜ ((i : ℕ) → i < n → VarIn (now text) attrs (getD vars i noVar)) ⌝ }
-    ensures { λ r. ⌜ Put (now (out .entry)) at (startBytes 11 n ++ each (varOut (now (text .entry)) version attrs) (take n vars)) (now (out .exit)) r ⌝ }
+// The list of variables.
+pub(crate) fn put_vars(out: &mut [u8], at: usize, text: &[u8], t: Tables) -> usize
+    requires { ⌜ RowsIn (now text) t × (at + length (varsPart (now text) t) ≤ length (now out)) ⌝ }
+    ensures { λ r. ⌜ Put (now (out .entry)) at (varsPart (now (text .entry)) t) (now (out .exit)) r ⌝ }
 {
-    let first = put_start(out, at, 11, n);
-    put_var_rows(out, first, text, version, attrs, vars, n)
+    let first = put_start(out, at, 11, t.nvars);
+    put_var_rows(out, first, text, t)
 }

@@ -56,6 +56,9 @@ pub put-first : {A : Type 0} (g : A → List ℕ) (xs : List A) (s : List ℕ) (
 unfolding each
 put-first g xs s at = subst (λ (k : ℕ). Put s at [] s k) (add-zero at) (put-nothing s at)
 
+pub put-no-items : {A : Type 0} {s : List ℕ} {at n : ℕ} (g : A → List ℕ) (xs : List A) → n ≡ 0 → Put s at (each g (take n xs)) s at
+put-no-items {s = s} {at = at} g xs e = put-is (put-first g xs s at) (ap (λ (k : ℕ). each g (take k xs)) (sym e))
+
 pub put-last : {A : Type 0} {s t : List ℕ} {at p : ℕ} (g : A → List ℕ) (xs : List A) (i n : ℕ) → n ≤ i → i ≤ n → Put s at (each g (take i xs)) t p → Put s at (each g (take n xs)) t p
 put-last g xs i n h l f = put-is f (ap (λ (k : ℕ). each g (take k xs)) (let e : i ≡ n = omega arith in e))
 

@@ -13,7 +13,7 @@ use Rattle.rules.specs.Rules.{spelled}
 use Rattle.rules.specs.Encode.{each, nameBytes}
 use Rattle.rules.proofs.Laws.Spelled.{length-spelled}
 use Rattle.writer.specs.Inner.Put.{Put}
-use Rattle.writer.specs.Inner.Parts.{startBytes, dimOut, attrOut, shapeOut, tailOut, attrsOut, varOut, listsOut, headerOut}
+use Rattle.writer.specs.Inner.Parts.{startBytes, attrOut, shapeOut, tailOut, attrsOut, varOut, dimsPart, globalsPart, varsPart, listsOut, headerOut}
 use Rattle.writer.proofs.Laws.Put.{put-then, put-is, length-start}
 use Rattle.writer.proofs.Laws.Rows.{put-list, length-list}
 
@@ -93,20 +93,14 @@ spelled-magic v h =
     rw (a, b, c, d) refl
 
 module _ (s : List ℕ) (t : Tables) where
-  abbrev pub dimsPart : List ℕ
-  dimsPart = startBytes 0x0A (t .ndims) ++ each (dimOut s) (take (t .ndims) (t .dims))
-
-  abbrev pub varsPart : List ℕ
-  varsPart = startBytes 0x0B (t .nvars) ++ each (varOut s (t .version) (t .attrs)) (take (t .nvars) (t .vars))
-
-  pub length-lists : length (listsOut s t) ≡ length dimsPart + (length (attrsOut s (t .attrs) 0 (t .globals)) + length varsPart)
+  pub length-lists : length (listsOut s t) ≡ length (dimsPart s t) + (length (globalsPart s t) + length (varsPart s t))
   unfolding listsOut
-  length-lists = length-three dimsPart (attrsOut s (t .attrs) 0 (t .globals)) varsPart
+  length-lists = length-three (dimsPart s t) (globalsPart s t) (varsPart s t)
 
-  pub put-lists : {o p q r : List ℕ} {i j k l : ℕ} → i + length (listsOut s t) ≤ length o → length p ≡ length o → Put o i dimsPart p j → Put p j (attrsOut s (t .attrs) 0 (t .globals)) q k → Put q k varsPart r l
+  pub put-lists : {o p q r : List ℕ} {i j k l : ℕ} → i + length (listsOut s t) ≤ length o → length p ≡ length o → Put o i (dimsPart s t) p j → Put p j (globalsPart s t) q k → Put q k (varsPart s t) r l
       → Put o i (listsOut s t) r l
   unfolding listsOut
-  put-lists room same f g h = put-three dimsPart (attrsOut s (t .attrs) 0 (t .globals)) varsPart room same f g h
+  put-lists room same f g h = put-three (dimsPart s t) (globalsPart s t) (varsPart s t) room same f g h
 
   pub length-header : length (headerOut s t) ≡ 8 + length (listsOut s t)
   unfolding headerOut

@@ -76,7 +76,7 @@ module _ (s : List ℕ) (t : Tables) (full : FullRows t) (ok : writable s t ≡ 
         ndims = k .dims;
         dims = rows .dims;
         nglobals = omega arith;
-        globals = λ i h. subst (λ (j : ℕ). AttrIn s (attrAt t j)) (sym (zero-add i)) (attr-in i (omega arith) (w .globals i h));
+        globals = λ i h. attr-in i (omega arith) (w .globals i h);
         nvars = k .vars;
         vars = λ i h.
             let span = k .spans i h in

@@ -44,12 +44,29 @@ module _ (s : List ℕ) where
   unfoldable pub varOut : ℕ → List Attr → Var → List ℕ
   varOut version xs v = shapeOut v ++ (attrsOut xs (v .first) (v .attrs) ++ tailOut version v)
 
-  -- of tables, from the dimensions on
-  unfoldable pub listsOut : Tables → List ℕ
-  listsOut t =
-      (startBytes 0x0A (t .ndims) ++ each dimOut (take (t .ndims) (t .dims)))
-      ++ (attrsOut (t .attrs) 0 (t .globals)
-      ++ (startBytes 0x0B (t .nvars) ++ each (varOut (t .version) (t .attrs)) (take (t .nvars) (t .vars))))
+  module _ (t : Tables) where
+    -- the items of the three lists, and each list with its start
+    abbrev pub dimsOut : List ℕ
+    dimsOut = each dimOut (take (t .ndims) (t .dims))
+
+    abbrev pub dimsPart : List ℕ
+    dimsPart = startBytes 0x0A (t .ndims) ++ dimsOut
+
+    abbrev pub globalsOut : List ℕ
+    globalsOut = each attrOut (take (t .globals) (t .attrs))
+
+    abbrev pub globalsPart : List ℕ
+    globalsPart = startBytes 0x0C (t .globals) ++ globalsOut
+
+    abbrev pub varsOut : List ℕ
+    varsOut = each (varOut (t .version) (t .attrs)) (take (t .nvars) (t .vars))
+
+    abbrev pub varsPart : List ℕ
+    varsPart = startBytes 0x0B (t .nvars) ++ varsOut
+
+    -- all three
+    unfoldable pub listsOut : List ℕ
+    listsOut = dimsPart ++ (globalsPart ++ varsPart)
 
   -- and of a whole header: C, D, F, the version, the count word, the lists
   unfoldable pub headerOut : Tables → List ℕ
@@ -74,6 +91,6 @@ pub record RowsIn (s : List ℕ) (t : Tables) : Type 0 where
   pub ndims : t .ndims ≤ 32
   pub dims : (i : ℕ) → i < t .ndims → getD (t .dims) i noDim .name + getD (t .dims) i noDim .chars ≤ length s
   pub nglobals : t .globals ≤ 128
-  pub globals : (i : ℕ) → i < t .globals → AttrIn s (getD (t .attrs) (0 + i) noAttr)
+  pub globals : (i : ℕ) → i < t .globals → AttrIn s (getD (t .attrs) i noAttr)
   pub nvars : t .nvars ≤ 64
   pub vars : (i : ℕ) → i < t .nvars → VarIn s (t .attrs) (getD (t .vars) i noVar)

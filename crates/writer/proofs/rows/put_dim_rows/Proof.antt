@@ -1,59 +1,53 @@
 use borrow.Author.Needs.{needs}
 use native.Mathlib.Omega.{arith}
-use Prim.Native.Nat.{ℕ, _+_, _-_, _*_, _≤_, _<_}
-use mathlib.Core.Path.{_≡_, refl, sym, ap, _∙_}
-use mathlib.Core.List.{_++_}
-use lib.ListN.{length, take, drop, getD}
-use Rattle.writer.proofs.Laws.Rows.{item-room, put-item, put-first, put-last}
+use Prim.Native.Nat.{_-_, _≤_}
+use mathlib.Core.Path.{_≡_, refl}
+use lib.ListN.{length, take}
 use Rattle.grammar.specs.Tables.{noDim}
+use Rattle.order.proofs.Laws.Rows.{full-rows}
 use Rattle.rules.specs.Encode.{each}
 use Rattle.writer.specs.Inner.Put.{Put}
 use Rattle.writer.specs.Inner.Parts.{dimOut}
+use Rattle.writer.proofs.Laws.Rows.{item-room, put-item, put-first, put-last}
 use Rattle.writer.proofs.rows.put_dim_rows.Statement.{statement}
 use Rattle.writer.proofs.rows.put_dim_rows.Tie as tie
-use Rattle.writer.proofs.rows.put_dim.Reads as put-dim-reads
 
 abbrev Inv-loop : tie.InvT-loop
-Inv-loop out₀ at text n dims p₀ i₀ out p i = (i ≤ n) × (length out ≡ length out₀) × Put out₀ at (each (dimOut text) (take i dims)) out p
+Inv-loop out₀ at text rows n p₀ i₀ out p i = (i ≤ n) × (n ≤ 32) × (length out ≡ length out₀) × Put out₀ at (each (dimOut text) (take i rows)) out p
 
 abbrev μ-loop : tie.MeasureT-loop
-μ-loop out₀ at text n dims p₀ i₀ out p i = n - i
+μ-loop out₀ at text rows n p₀ i₀ out p i = n - i
 
--- src/rows.rt:36:5
 loop-holds : tie.Need-loop-holds Inv-loop μ-loop
-loop-holds c = (search needs, search needs, put-first _ (c .before .before .args .t4) _ _)
+loop-holds c = (search needs, c .before .before .before .pre .0 .ndims, search needs, put-first _ (c .before .before .before .args .t .dims) _ _)
 
--- src/rows.rt:37:17
 mul-d : tie.Need-mul-d Inv-loop μ-loop
 mul-d c = search needs
 
--- src/rows.rt:37:17
 array-copy-out-d : tie.Need-array-copy-out-d Inv-loop μ-loop
 array-copy-out-d c = search needs
 
--- src/rows.rt:38:9
 put-dim-requires : tie.Need-put-dim-requires Inv-loop μ-loop
-put-dim-requires c κs = let l : length (c .before .before .before .before .before .before .args .t4) ≡ 32 = search needs in (c .before .before .before .before .before .before .pre .1 (c .before .before .before .loop .i) (omega arith), item-room (dimOut (c .before .before .before .before .before .before .args .text .now)) (c .before .before .before .before .before .before .args .t4) (c .before .before .before .before .before .before .args .at) (c .before .before .before .before .before .before .args .n) (length (c .before .before .before .loop .out)) (omega arith) (c .before .before .before .loop .i) (c .before .before .before .loop .p) noDim (omega arith) (omega arith) (c .before .before .before .loop .inv .2 .place))
+put-dim-requires c κs =
+    let l = full-rows (c .before .before .before .before .before .before .before .args .t) _ (c .before .before .before .before .before .before .before .good .1 .1 .1 .0) .dims in
+    (c .before .before .before .before .before .before .before .pre .0 .dims (c .before .before .before .loop .i) (omega arith), item-room (dimOut (c .before .before .before .before .before .before .before .args .text .now)) (c .before .before .before .before .before .before .before .args .t .dims) (c .before .before .before .before .before .before .before .args .at) (c .before .before .before .before .before .before .before .args .t .ndims) (length (c .before .before .before .loop .out)) (omega arith) (c .before .before .before .loop .i) (c .before .before .before .loop .p) noDim (omega arith) (omega arith) (c .before .before .before .loop .inv .3 .place))
 
--- src/rows.rt:39:9
 add-i : tie.Need-add-i Inv-loop μ-loop
 add-i c = search needs
 
--- src/rows.rt:36:5
 loop-less : tie.Need-loop-less Inv-loop μ-loop
 loop-less c = search needs
 
--- src/rows.rt:36:5
 loop-again : tie.Need-loop-again Inv-loop μ-loop
-loop-again c = let l : length (c .before .before .before .before .before .before .before .before .before .args .t4) ≡ 32 = search needs in (omega arith, search needs, put-item (dimOut (c .before .before .before .before .before .before .before .before .before .args .text .now)) (c .before .before .before .before .before .before .before .before .before .args .t4) (c .before .before .before .before .before .before .before .before .before .args .at) (c .before .before .before .before .before .before .before .before .before .args .n) (length (c .before .before .before .before .before .before .before .before .before .args .out .now)) (omega arith) (c .before .before .before .before .before .before .loop .i) (c .before .before .before .before .before .before .loop .p) (c .before .before .put-dim .result) noDim (omega arith) (omega arith) refl (c .before .before .before .before .before .before .loop .inv .2) (c .before .before .put-dim .ensures))
+loop-again c =
+    let l = full-rows (c .before .before .before .before .before .before .before .before .before .before .args .t) _ (c .before .before .before .before .before .before .before .before .before .before .good .1 .1 .1 .0) .dims in
+    (omega arith, search needs, search needs, put-item (dimOut (c .before .before .before .before .before .before .before .before .before .before .args .text .now)) (c .before .before .before .before .before .before .before .before .before .before .args .t .dims) (c .before .before .before .before .before .before .before .before .before .before .args .at) (c .before .before .before .before .before .before .before .before .before .before .args .t .ndims) (length (c .before .before .before .before .before .before .before .before .before .before .args .out .now)) (omega arith) (c .before .before .before .before .before .before .loop .i) (c .before .before .before .before .before .before .loop .p) (c .before .before .put-dim .result) noDim (omega arith) (omega arith) refl (c .before .before .before .before .before .before .loop .inv .3) (c .before .before .put-dim .ensures))
 
--- src/rows.rt:29:1
 same-length : tie.Need-same-length Inv-loop μ-loop
 same-length c = search needs
 
--- src/rows.rt:29:1
 returns : tie.Need-returns Inv-loop μ-loop
-returns c = put-last _ _ (c .before .loop .i) (c .before .before .before .before .args .n) (omega arith) (omega arith) (c .before .loop .inv .2)
+returns c = put-last _ _ (c .before .loop .i) (c .before .before .before .before .before .args .t .ndims) (omega arith) (omega arith) (c .before .loop .inv .3)
 
 pub put-dim-rows-spec : {M : Type 1} → statement M
 put-dim-rows-spec =

@@ -1,9 +1,10 @@
 use borrow.Author.Needs.{needs}
 use native.Mathlib.Omega.{arith}
-use Prim.Native.Nat.{ℕ, _+_, _-_, _≤_, _<_}
+use Prim.Native.Nat.{_+_, _-_, _≤_}
 use mathlib.Core.Path.{_≡_, refl}
 use lib.ListN.{length, take, drop, getD, length-drop}
 use Rattle.grammar.specs.Tables.{noAttr, noVar}
+use Rattle.order.proofs.Laws.Rows.{full-rows}
 use Rattle.rules.specs.Encode.{each}
 use Rattle.writer.specs.Inner.Put.{Put}
 use Rattle.writer.specs.Inner.Parts.{attrOut, varOut}
@@ -13,19 +14,19 @@ use Rattle.writer.proofs.vars.put_var_rows.Statement.{statement}
 use Rattle.writer.proofs.vars.put_var_rows.Tie as tie
 
 abbrev Inv-loop2 : tie.InvT-loop2
-Inv-loop2 out₀ at text version n attrs vars p i v first own list q₀ k₀ out q k = (k ≤ own) × (first + own ≤ 128) × (length out ≡ length out₀) × Put out₀ q₀ (each (attrOut text) (take k (drop first attrs))) out q
+Inv-loop2 out₀ at text version n attrs rows p i v first own list q₀ k₀ out q k = (k ≤ own) × (first + own ≤ 128) × (length out ≡ length out₀) × Put out₀ q₀ (each (attrOut text) (take k (drop first attrs))) out q
 
 abbrev μ-loop2 : tie.MeasureT-loop2
-μ-loop2 out₀ at text version n attrs vars p i v first own list q₀ k₀ out q k = own - k
+μ-loop2 out₀ at text version n attrs rows p i v first own list q₀ k₀ out q k = own - k
 
 abbrev Inv-loop : tie.InvT-loop
-Inv-loop out₀ at text version n attrs vars p₀ i₀ out p i = (i ≤ n) × (length out ≡ length out₀) × (length vars ≡ 64) × (length attrs ≡ 128) × Put out₀ at (each (varOut text version attrs) (take i vars)) out p
+Inv-loop out₀ at text version n attrs rows p₀ i₀ out p i = (i ≤ n) × (n ≤ 64) × (length out ≡ length out₀) × (length rows ≡ 64) × (length attrs ≡ 128) × Put out₀ at (each (varOut text version attrs) (take i rows)) out p
 
 abbrev μ-loop : tie.MeasureT-loop
-μ-loop out₀ at text version n attrs vars p₀ i₀ out p i = n - i
+μ-loop out₀ at text version n attrs rows p₀ i₀ out p i = n - i
 
 loop-holds : tie.Need-loop-holds Inv-loop2 μ-loop2 Inv-loop μ-loop
-loop-holds c = (search needs, search needs, search needs, search needs, put-first _ (c .before .before .args .t6) _ _)
+loop-holds c = let l = full-rows (c .before .before .before .before .args .t) _ (c .before .before .before .before .good .1 .1 .1 .0) in (search needs, c .before .before .before .before .pre .0 .nvars, search needs, l .vars, l .attrs, put-first _ (c .before .before .before .before .args .t .vars) _ _)
 
 mul-v : tie.Need-mul-v Inv-loop2 μ-loop2 Inv-loop μ-loop
 mul-v c = search needs
@@ -41,20 +42,24 @@ cast-own c = search needs
 
 put-shape-requires : tie.Need-put-shape-requires Inv-loop2 μ-loop2 Inv-loop μ-loop
 put-shape-requires c κs =
-    let fit = item-room (varOut (c .before .before .before .before .before .before .before .before .args .text .now) (c .before .before .before .before .before .before .before .before .args .version) (c .before .before .before .before .before .before .before .before .args .t5)) (c .before .before .before .before .before .before .before .before .args .t6) (c .before .before .before .before .before .before .before .before .args .at) (c .before .before .before .before .before .before .before .before .args .n) (length (c .before .before .before .before .before .loop .out)) (omega arith) (c .before .before .before .before .before .loop .i) (c .before .before .before .before .before .loop .p) noVar (omega arith) (omega arith) (c .before .before .before .before .before .loop .inv .4 .place) in
-    let x = c .before .before .before .before .before .before .before .before .pre .1 (c .before .before .before .before .before .loop .i) (omega arith) in
-    (x .name, x .rank, shape-room (c .before .before .before .before .before .before .before .before .args .text .now) (c .before .before .before .before .before .before .before .before .args .version) (c .before .before .before .before .before .before .before .before .args .t5) (getD (c .before .before .before .before .before .before .before .before .args .t6) (c .before .before .before .before .before .loop .i) noVar) (c .before .before .before .before .before .loop .p) fit)
+    let b = c .before .before .before .before .before .loop .inv .1 in
+    let lv = c .before .before .before .before .before .loop .inv .3 in
+    let fit = item-room (varOut (c .before .before .before .before .before .before .before .before .before .before .args .text .now) (c .before .before .before .before .before .before .before .before .before .before .args .t .version) (c .before .before .before .before .before .before .before .before .before .before .args .t .attrs)) (c .before .before .before .before .before .before .before .before .before .before .args .t .vars) (c .before .before .before .before .before .before .before .before .before .before .args .at) (c .before .before .before .before .before .before .before .before .before .before .args .t .nvars) (length (c .before .before .before .before .before .loop .out)) (omega arith) (c .before .before .before .before .before .loop .i) (c .before .before .before .before .before .loop .p) noVar (omega arith) (omega arith) (c .before .before .before .before .before .loop .inv .5 .place) in
+    let x = c .before .before .before .before .before .before .before .before .before .before .pre .0 .vars (c .before .before .before .before .before .loop .i) (omega arith) in
+    (x .name, x .rank, shape-room (c .before .before .before .before .before .before .before .before .before .before .args .text .now) (c .before .before .before .before .before .before .before .before .before .before .args .t .version) (c .before .before .before .before .before .before .before .before .before .before .args .t .attrs) (getD (c .before .before .before .before .before .before .before .before .before .before .args .t .vars) (c .before .before .before .before .before .loop .i) noVar) (c .before .before .before .before .before .loop .p) fit)
 
 put-start-requires : tie.Need-put-start-requires Inv-loop2 μ-loop2 Inv-loop μ-loop
 put-start-requires c κs =
-    let fit = item-room (varOut (c .before .before .before .before .before .before .before .before .before .before .before .before .args .text .now) (c .before .before .before .before .before .before .before .before .before .before .before .before .args .version) (c .before .before .before .before .before .before .before .before .before .before .before .before .args .t5)) (c .before .before .before .before .before .before .before .before .before .before .before .before .args .t6) (c .before .before .before .before .before .before .before .before .before .before .before .before .args .at) (c .before .before .before .before .before .before .before .before .before .before .before .before .args .n) (length (c .before .before .before .before .before .before .before .before .before .loop .out)) (omega arith) (c .before .before .before .before .before .before .before .before .before .loop .i) (c .before .before .before .before .before .before .before .before .before .loop .p) noVar (omega arith) (omega arith) (c .before .before .before .before .before .before .before .before .before .loop .inv .4 .place) in
-    let r = start-room (c .before .before .before .before .before .before .before .before .before .before .before .before .args .text .now) (c .before .before .before .before .before .before .before .before .before .before .before .before .args .version) (c .before .before .before .before .before .before .before .before .before .before .before .before .args .t5) (getD (c .before .before .before .before .before .before .before .before .before .before .before .before .args .t6) (c .before .before .before .before .before .before .before .before .before .loop .i) noVar) (c .before .before .before .before .before .before .before .before .before .loop .p) fit (c .before .before .before .put-shape .ensures .place) in
+    let b = c .before .before .before .before .before .before .before .before .before .loop .inv .1 in
+    let lv = c .before .before .before .before .before .before .before .before .before .loop .inv .3 in
+    let fit = item-room (varOut (c .before .before .before .before .before .before .before .before .before .before .before .before .before .before .args .text .now) (c .before .before .before .before .before .before .before .before .before .before .before .before .before .before .args .t .version) (c .before .before .before .before .before .before .before .before .before .before .before .before .before .before .args .t .attrs)) (c .before .before .before .before .before .before .before .before .before .before .before .before .before .before .args .t .vars) (c .before .before .before .before .before .before .before .before .before .before .before .before .before .before .args .at) (c .before .before .before .before .before .before .before .before .before .before .before .before .before .before .args .t .nvars) (length (c .before .before .before .before .before .before .before .before .before .loop .out)) (omega arith) (c .before .before .before .before .before .before .before .before .before .loop .i) (c .before .before .before .before .before .before .before .before .before .loop .p) noVar (omega arith) (omega arith) (c .before .before .before .before .before .before .before .before .before .loop .inv .5 .place) in
+    let r = start-room (c .before .before .before .before .before .before .before .before .before .before .before .before .before .before .args .text .now) (c .before .before .before .before .before .before .before .before .before .before .before .before .before .before .args .t .version) (c .before .before .before .before .before .before .before .before .before .before .before .before .before .before .args .t .attrs) (getD (c .before .before .before .before .before .before .before .before .before .before .before .before .before .before .args .t .vars) (c .before .before .before .before .before .before .before .before .before .loop .i) noVar) (c .before .before .before .before .before .before .before .before .before .loop .p) fit (c .before .before .before .put-shape .ensures .place) in
     (omega arith, omega arith)
 
 loop2-holds : tie.Need-loop2-holds Inv-loop2 μ-loop2 Inv-loop μ-loop
 loop2-holds c =
-    let x = c .before .before .before .before .before .before .before .before .before .before .before .before .before .before .before .pre .1 (c .before .before .before .before .before .before .before .before .before .before .before .before .loop .i) (omega arith) in
-    (omega arith, x .span, search needs, put-first _ (drop (getD (c .before .before .before .before .before .before .before .before .before .before .before .before .before .before .before .args .t6) (c .before .before .before .before .before .before .before .before .before .before .before .before .loop .i) noVar .first) (c .before .before .before .before .before .before .before .before .before .before .before .before .before .before .before .args .t5)) _ _)
+    let x = c .before .before .before .before .before .before .before .before .before .before .before .before .before .before .before .before .before .pre .0 .vars (c .before .before .before .before .before .before .before .before .before .before .before .before .loop .i) (omega arith) in
+    (omega arith, x .span, search needs, put-first _ (drop (getD (c .before .before .before .before .before .before .before .before .before .before .before .before .before .before .before .before .before .args .t .vars) (c .before .before .before .before .before .before .before .before .before .before .before .before .loop .i) noVar .first) (c .before .before .before .before .before .before .before .before .before .before .before .before .before .before .before .before .before .args .t .attrs)) _ _)
 
 add-a : tie.Need-add-a Inv-loop2 μ-loop2 Inv-loop μ-loop
 add-a c = search needs
@@ -67,12 +72,15 @@ array-copy-out-a c = search needs
 
 put-attr-requires : tie.Need-put-attr-requires Inv-loop2 μ-loop2 Inv-loop μ-loop
 put-attr-requires c κs =
-    let fit = item-room (varOut (c .before .before .before .before .before .before .before .before .before .before .before .before .before .before .before .before .before .before .before .args .text .now) (c .before .before .before .before .before .before .before .before .before .before .before .before .before .before .before .before .before .before .before .args .version) (c .before .before .before .before .before .before .before .before .before .before .before .before .before .before .before .before .before .before .before .args .t5)) (c .before .before .before .before .before .before .before .before .before .before .before .before .before .before .before .before .before .before .before .args .t6) (c .before .before .before .before .before .before .before .before .before .before .before .before .before .before .before .before .before .before .before .args .at) (c .before .before .before .before .before .before .before .before .before .before .before .before .before .before .before .before .before .before .before .args .n) (length (c .before .before .before .before .before .before .before .before .before .before .before .before .before .before .before .before .loop .out)) (omega arith) (c .before .before .before .before .before .before .before .before .before .before .before .before .before .before .before .before .loop .i) (c .before .before .before .before .before .before .before .before .before .before .before .before .before .before .before .before .loop .p) noVar (omega arith) (omega arith) (c .before .before .before .before .before .before .before .before .before .before .before .before .before .before .before .before .loop .inv .4 .place) in
-    let ld = length-drop (getD (c .before .before .before .before .before .before .before .before .before .before .before .before .before .before .before .before .before .before .before .args .t6) (c .before .before .before .before .before .before .before .before .before .before .before .before .before .before .before .before .loop .i) noVar .first) (c .before .before .before .before .before .before .before .before .before .before .before .before .before .before .before .before .before .before .before .args .t5) in
-    let e = nth-drop (c .before .before .before .before .before .before .before .before .before .before .before .before .before .before .before .before .before .before .before .args .t5) (getD (c .before .before .before .before .before .before .before .before .before .before .before .before .before .before .before .before .before .before .before .args .t6) (c .before .before .before .before .before .before .before .before .before .before .before .before .before .before .before .before .loop .i) noVar .first) (c .before .before .before .loop2 .k) noAttr in
-    let b = c .before .before .before .loop2 .inv .1 in
-    let ir : c .before .before .before .before .before .before .put-start .result + length (itemsOut (c .before .before .before .before .before .before .before .before .before .before .before .before .before .before .before .before .before .before .before .args .text .now) (c .before .before .before .before .before .before .before .before .before .before .before .before .before .before .before .before .before .before .before .args .version) (c .before .before .before .before .before .before .before .before .before .before .before .before .before .before .before .before .before .before .before .args .t5) (getD (c .before .before .before .before .before .before .before .before .before .before .before .before .before .before .before .before .before .before .before .args .t6) (c .before .before .before .before .before .before .before .before .before .before .before .before .before .before .before .before .loop .i) noVar)) ≤ length (c .before .before .before .loop2 .out) = let r = items-room (c .before .before .before .before .before .before .before .before .before .before .before .before .before .before .before .before .before .before .before .args .text .now) (c .before .before .before .before .before .before .before .before .before .before .before .before .before .before .before .before .before .before .before .args .version) (c .before .before .before .before .before .before .before .before .before .before .before .before .before .before .before .before .before .before .before .args .t5) (getD (c .before .before .before .before .before .before .before .before .before .before .before .before .before .before .before .before .before .before .before .args .t6) (c .before .before .before .before .before .before .before .before .before .before .before .before .before .before .before .before .loop .i) noVar) (c .before .before .before .before .before .before .before .before .before .before .before .before .before .before .before .before .loop .p) fit (c .before .before .before .before .before .before .before .before .before .before .put-shape .ensures .place) (c .before .before .before .before .before .before .put-start .ensures .place) in omega arith in
-    (c .before .before .before .before .before .before .before .before .before .before .before .before .before .before .before .before .before .before .before .pre .1 (c .before .before .before .before .before .before .before .before .before .before .before .before .before .before .before .before .loop .i) (omega arith) .rows (c .before .before .before .loop2 .k) (omega arith), rw e at (item-room (attrOut (c .before .before .before .before .before .before .before .before .before .before .before .before .before .before .before .before .before .before .before .args .text .now)) (drop (getD (c .before .before .before .before .before .before .before .before .before .before .before .before .before .before .before .before .before .before .before .args .t6) (c .before .before .before .before .before .before .before .before .before .before .before .before .before .before .before .before .loop .i) noVar .first) (c .before .before .before .before .before .before .before .before .before .before .before .before .before .before .before .before .before .before .before .args .t5)) (c .before .before .before .before .before .before .put-start .result) (getD (c .before .before .before .before .before .before .before .before .before .before .before .before .before .before .before .before .before .before .before .args .t6) (c .before .before .before .before .before .before .before .before .before .before .before .before .before .before .before .before .loop .i) noVar .attrs) (length (c .before .before .before .loop2 .out)) ir (c .before .before .before .loop2 .k) (c .before .before .before .loop2 .q) noAttr (omega arith) (omega arith) (c .before .before .before .loop2 .inv .3 .place)))
+    let b = c .before .before .before .before .before .before .before .before .before .before .before .before .before .before .before .before .loop .inv .1 in
+    let lv = c .before .before .before .before .before .before .before .before .before .before .before .before .before .before .before .before .loop .inv .3 in
+    let fit = item-room (varOut (c .before .before .before .before .before .before .before .before .before .before .before .before .before .before .before .before .before .before .before .before .before .args .text .now) (c .before .before .before .before .before .before .before .before .before .before .before .before .before .before .before .before .before .before .before .before .before .args .t .version) (c .before .before .before .before .before .before .before .before .before .before .before .before .before .before .before .before .before .before .before .before .before .args .t .attrs)) (c .before .before .before .before .before .before .before .before .before .before .before .before .before .before .before .before .before .before .before .before .before .args .t .vars) (c .before .before .before .before .before .before .before .before .before .before .before .before .before .before .before .before .before .before .before .before .before .args .at) (c .before .before .before .before .before .before .before .before .before .before .before .before .before .before .before .before .before .before .before .before .before .args .t .nvars) (length (c .before .before .before .before .before .before .before .before .before .before .before .before .before .before .before .before .loop .out)) (omega arith) (c .before .before .before .before .before .before .before .before .before .before .before .before .before .before .before .before .loop .i) (c .before .before .before .before .before .before .before .before .before .before .before .before .before .before .before .before .loop .p) noVar (omega arith) (omega arith) (c .before .before .before .before .before .before .before .before .before .before .before .before .before .before .before .before .loop .inv .5 .place) in
+    let la = c .before .before .before .before .before .before .before .before .before .before .before .before .before .before .before .before .loop .inv .4 in
+    let ld = length-drop (getD (c .before .before .before .before .before .before .before .before .before .before .before .before .before .before .before .before .before .before .before .before .before .args .t .vars) (c .before .before .before .before .before .before .before .before .before .before .before .before .before .before .before .before .loop .i) noVar .first) (c .before .before .before .before .before .before .before .before .before .before .before .before .before .before .before .before .before .before .before .before .before .args .t .attrs) in
+    let e = nth-drop (c .before .before .before .before .before .before .before .before .before .before .before .before .before .before .before .before .before .before .before .before .before .args .t .attrs) (getD (c .before .before .before .before .before .before .before .before .before .before .before .before .before .before .before .before .before .before .before .before .before .args .t .vars) (c .before .before .before .before .before .before .before .before .before .before .before .before .before .before .before .before .loop .i) noVar .first) (c .before .before .before .loop2 .k) noAttr in
+    let s = c .before .before .before .loop2 .inv .1 in
+    let ir : c .before .before .before .before .before .before .put-start .result + length (itemsOut (c .before .before .before .before .before .before .before .before .before .before .before .before .before .before .before .before .before .before .before .before .before .args .text .now) (c .before .before .before .before .before .before .before .before .before .before .before .before .before .before .before .before .before .before .before .before .before .args .t .version) (c .before .before .before .before .before .before .before .before .before .before .before .before .before .before .before .before .before .before .before .before .before .args .t .attrs) (getD (c .before .before .before .before .before .before .before .before .before .before .before .before .before .before .before .before .before .before .before .before .before .args .t .vars) (c .before .before .before .before .before .before .before .before .before .before .before .before .before .before .before .before .loop .i) noVar)) ≤ length (c .before .before .before .loop2 .out) = let r = items-room (c .before .before .before .before .before .before .before .before .before .before .before .before .before .before .before .before .before .before .before .before .before .args .text .now) (c .before .before .before .before .before .before .before .before .before .before .before .before .before .before .before .before .before .before .before .before .before .args .t .version) (c .before .before .before .before .before .before .before .before .before .before .before .before .before .before .before .before .before .before .before .before .before .args .t .attrs) (getD (c .before .before .before .before .before .before .before .before .before .before .before .before .before .before .before .before .before .before .before .before .before .args .t .vars) (c .before .before .before .before .before .before .before .before .before .before .before .before .before .before .before .before .loop .i) noVar) (c .before .before .before .before .before .before .before .before .before .before .before .before .before .before .before .before .loop .p) fit (c .before .before .before .before .before .before .before .before .before .before .put-shape .ensures .place) (c .before .before .before .before .before .before .put-start .ensures .place) in omega arith in
+    (c .before .before .before .before .before .before .before .before .before .before .before .before .before .before .before .before .before .before .before .before .before .pre .0 .vars (c .before .before .before .before .before .before .before .before .before .before .before .before .before .before .before .before .loop .i) (omega arith) .rows (c .before .before .before .loop2 .k) (omega arith), rw e at (item-room (attrOut (c .before .before .before .before .before .before .before .before .before .before .before .before .before .before .before .before .before .before .before .before .before .args .text .now)) (drop (getD (c .before .before .before .before .before .before .before .before .before .before .before .before .before .before .before .before .before .before .before .before .before .args .t .vars) (c .before .before .before .before .before .before .before .before .before .before .before .before .before .before .before .before .loop .i) noVar .first) (c .before .before .before .before .before .before .before .before .before .before .before .before .before .before .before .before .before .before .before .before .before .args .t .attrs)) (c .before .before .before .before .before .before .put-start .result) (getD (c .before .before .before .before .before .before .before .before .before .before .before .before .before .before .before .before .before .before .before .before .before .args .t .vars) (c .before .before .before .before .before .before .before .before .before .before .before .before .before .before .before .before .loop .i) noVar .attrs) (length (c .before .before .before .loop2 .out)) ir (c .before .before .before .loop2 .k) (c .before .before .before .loop2 .q) noAttr (omega arith) (omega arith) (c .before .before .before .loop2 .inv .3 .place)))
 
 add-k : tie.Need-add-k Inv-loop2 μ-loop2 Inv-loop μ-loop
 add-k c = search needs
@@ -82,18 +90,23 @@ loop2-less c = search needs
 
 loop2-again : tie.Need-loop2-again Inv-loop2 μ-loop2 Inv-loop μ-loop
 loop2-again c =
-    let fit = item-room (varOut (c .before .before .before .before .before .before .before .before .before .before .before .before .before .before .before .before .before .before .before .before .before .before .args .text .now) (c .before .before .before .before .before .before .before .before .before .before .before .before .before .before .before .before .before .before .before .before .before .before .args .version) (c .before .before .before .before .before .before .before .before .before .before .before .before .before .before .before .before .before .before .before .before .before .before .args .t5)) (c .before .before .before .before .before .before .before .before .before .before .before .before .before .before .before .before .before .before .before .before .before .before .args .t6) (c .before .before .before .before .before .before .before .before .before .before .before .before .before .before .before .before .before .before .before .before .before .before .args .at) (c .before .before .before .before .before .before .before .before .before .before .before .before .before .before .before .before .before .before .before .before .before .before .args .n) (length (c .before .before .before .before .before .before .before .before .before .before .before .before .before .before .before .before .before .before .before .loop .out)) (omega arith) (c .before .before .before .before .before .before .before .before .before .before .before .before .before .before .before .before .before .before .before .loop .i) (c .before .before .before .before .before .before .before .before .before .before .before .before .before .before .before .before .before .before .before .loop .p) noVar (omega arith) (omega arith) (c .before .before .before .before .before .before .before .before .before .before .before .before .before .before .before .before .before .before .before .loop .inv .4 .place) in
-    let ld = length-drop (getD (c .before .before .before .before .before .before .before .before .before .before .before .before .before .before .before .before .before .before .before .before .before .before .args .t6) (c .before .before .before .before .before .before .before .before .before .before .before .before .before .before .before .before .before .before .before .loop .i) noVar .first) (c .before .before .before .before .before .before .before .before .before .before .before .before .before .before .before .before .before .before .before .before .before .before .args .t5) in
-    let e = nth-drop (c .before .before .before .before .before .before .before .before .before .before .before .before .before .before .before .before .before .before .before .before .before .before .args .t5) (getD (c .before .before .before .before .before .before .before .before .before .before .before .before .before .before .before .before .before .before .before .before .before .before .args .t6) (c .before .before .before .before .before .before .before .before .before .before .before .before .before .before .before .before .before .before .before .loop .i) noVar .first) (c .before .before .before .before .before .before .loop2 .k) noAttr in
-    let b = c .before .before .before .before .before .before .loop2 .inv .1 in
-    let ir : c .before .before .before .before .before .before .before .before .before .put-start .result + length (itemsOut (c .before .before .before .before .before .before .before .before .before .before .before .before .before .before .before .before .before .before .before .before .before .before .args .text .now) (c .before .before .before .before .before .before .before .before .before .before .before .before .before .before .before .before .before .before .before .before .before .before .args .version) (c .before .before .before .before .before .before .before .before .before .before .before .before .before .before .before .before .before .before .before .before .before .before .args .t5) (getD (c .before .before .before .before .before .before .before .before .before .before .before .before .before .before .before .before .before .before .before .before .before .before .args .t6) (c .before .before .before .before .before .before .before .before .before .before .before .before .before .before .before .before .before .before .before .loop .i) noVar)) ≤ length (c .before .before .before .before .before .before .loop2 .out) = let r = items-room (c .before .before .before .before .before .before .before .before .before .before .before .before .before .before .before .before .before .before .before .before .before .before .args .text .now) (c .before .before .before .before .before .before .before .before .before .before .before .before .before .before .before .before .before .before .before .before .before .before .args .version) (c .before .before .before .before .before .before .before .before .before .before .before .before .before .before .before .before .before .before .before .before .before .before .args .t5) (getD (c .before .before .before .before .before .before .before .before .before .before .before .before .before .before .before .before .before .before .before .before .before .before .args .t6) (c .before .before .before .before .before .before .before .before .before .before .before .before .before .before .before .before .before .before .before .loop .i) noVar) (c .before .before .before .before .before .before .before .before .before .before .before .before .before .before .before .before .before .before .before .loop .p) fit (c .before .before .before .before .before .before .before .before .before .before .before .before .before .put-shape .ensures .place) (c .before .before .before .before .before .before .before .before .before .put-start .ensures .place) in omega arith in
-    (omega arith, search needs, search needs, put-item (attrOut (c .before .before .before .before .before .before .before .before .before .before .before .before .before .before .before .before .before .before .before .before .before .before .args .text .now)) (drop (getD (c .before .before .before .before .before .before .before .before .before .before .before .before .before .before .before .before .before .before .before .before .before .before .args .t6) (c .before .before .before .before .before .before .before .before .before .before .before .before .before .before .before .before .before .before .before .loop .i) noVar .first) (c .before .before .before .before .before .before .before .before .before .before .before .before .before .before .before .before .before .before .before .before .before .before .args .t5)) (c .before .before .before .before .before .before .before .before .before .put-start .result) (getD (c .before .before .before .before .before .before .before .before .before .before .before .before .before .before .before .before .before .before .before .before .before .before .args .t6) (c .before .before .before .before .before .before .before .before .before .before .before .before .before .before .before .before .before .before .before .loop .i) noVar .attrs) (length (c .before .before .before .before .before .before .loop2 .out)) ir (c .before .before .before .before .before .before .loop2 .k) (c .before .before .before .before .before .before .loop2 .q) (c .before .before .put-attr .result) noAttr (omega arith) (omega arith) (omega arith) (c .before .before .before .before .before .before .loop2 .inv .3) (rw (← e) at (c .before .before .put-attr .ensures)))
+    let b = c .before .before .before .before .before .before .before .before .before .before .before .before .before .before .before .before .before .before .before .loop .inv .1 in
+    let lv = c .before .before .before .before .before .before .before .before .before .before .before .before .before .before .before .before .before .before .before .loop .inv .3 in
+    let fit = item-room (varOut (c .before .before .before .before .before .before .before .before .before .before .before .before .before .before .before .before .before .before .before .before .before .before .before .before .args .text .now) (c .before .before .before .before .before .before .before .before .before .before .before .before .before .before .before .before .before .before .before .before .before .before .before .before .args .t .version) (c .before .before .before .before .before .before .before .before .before .before .before .before .before .before .before .before .before .before .before .before .before .before .before .before .args .t .attrs)) (c .before .before .before .before .before .before .before .before .before .before .before .before .before .before .before .before .before .before .before .before .before .before .before .before .args .t .vars) (c .before .before .before .before .before .before .before .before .before .before .before .before .before .before .before .before .before .before .before .before .before .before .before .before .args .at) (c .before .before .before .before .before .before .before .before .before .before .before .before .before .before .before .before .before .before .before .before .before .before .before .before .args .t .nvars) (length (c .before .before .before .before .before .before .before .before .before .before .before .before .before .before .before .before .before .before .before .loop .out)) (omega arith) (c .before .before .before .before .before .before .before .before .before .before .before .before .before .before .before .before .before .before .before .loop .i) (c .before .before .before .before .before .before .before .before .before .before .before .before .before .before .before .before .before .before .before .loop .p) noVar (omega arith) (omega arith) (c .before .before .before .before .before .before .before .before .before .before .before .before .before .before .before .before .before .before .before .loop .inv .5 .place) in
+    let la = c .before .before .before .before .before .before .before .before .before .before .before .before .before .before .before .before .before .before .before .loop .inv .4 in
+    let ld = length-drop (getD (c .before .before .before .before .before .before .before .before .before .before .before .before .before .before .before .before .before .before .before .before .before .before .before .before .args .t .vars) (c .before .before .before .before .before .before .before .before .before .before .before .before .before .before .before .before .before .before .before .loop .i) noVar .first) (c .before .before .before .before .before .before .before .before .before .before .before .before .before .before .before .before .before .before .before .before .before .before .before .before .args .t .attrs) in
+    let e = nth-drop (c .before .before .before .before .before .before .before .before .before .before .before .before .before .before .before .before .before .before .before .before .before .before .before .before .args .t .attrs) (getD (c .before .before .before .before .before .before .before .before .before .before .before .before .before .before .before .before .before .before .before .before .before .before .before .before .args .t .vars) (c .before .before .before .before .before .before .before .before .before .before .before .before .before .before .before .before .before .before .before .loop .i) noVar .first) (c .before .before .before .before .before .before .loop2 .k) noAttr in
+    let s = c .before .before .before .before .before .before .loop2 .inv .1 in
+    let ir : c .before .before .before .before .before .before .before .before .before .put-start .result + length (itemsOut (c .before .before .before .before .before .before .before .before .before .before .before .before .before .before .before .before .before .before .before .before .before .before .before .before .args .text .now) (c .before .before .before .before .before .before .before .before .before .before .before .before .before .before .before .before .before .before .before .before .before .before .before .before .args .t .version) (c .before .before .before .before .before .before .before .before .before .before .before .before .before .before .before .before .before .before .before .before .before .before .before .before .args .t .attrs) (getD (c .before .before .before .before .before .before .before .before .before .before .before .before .before .before .before .before .before .before .before .before .before .before .before .before .args .t .vars) (c .before .before .before .before .before .before .before .before .before .before .before .before .before .before .before .before .before .before .before .loop .i) noVar)) ≤ length (c .before .before .before .before .before .before .loop2 .out) = let r = items-room (c .before .before .before .before .before .before .before .before .before .before .before .before .before .before .before .before .before .before .before .before .before .before .before .before .args .text .now) (c .before .before .before .before .before .before .before .before .before .before .before .before .before .before .before .before .before .before .before .before .before .before .before .before .args .t .version) (c .before .before .before .before .before .before .before .before .before .before .before .before .before .before .before .before .before .before .before .before .before .before .before .before .args .t .attrs) (getD (c .before .before .before .before .before .before .before .before .before .before .before .before .before .before .before .before .before .before .before .before .before .before .before .before .args .t .vars) (c .before .before .before .before .before .before .before .before .before .before .before .before .before .before .before .before .before .before .before .loop .i) noVar) (c .before .before .before .before .before .before .before .before .before .before .before .before .before .before .before .before .before .before .before .loop .p) fit (c .before .before .before .before .before .before .before .before .before .before .before .before .before .put-shape .ensures .place) (c .before .before .before .before .before .before .before .before .before .put-start .ensures .place) in omega arith in
+    (omega arith, search needs, search needs, put-item (attrOut (c .before .before .before .before .before .before .before .before .before .before .before .before .before .before .before .before .before .before .before .before .before .before .before .before .args .text .now)) (drop (getD (c .before .before .before .before .before .before .before .before .before .before .before .before .before .before .before .before .before .before .before .before .before .before .before .before .args .t .vars) (c .before .before .before .before .before .before .before .before .before .before .before .before .before .before .before .before .before .before .before .loop .i) noVar .first) (c .before .before .before .before .before .before .before .before .before .before .before .before .before .before .before .before .before .before .before .before .before .before .before .before .args .t .attrs)) (c .before .before .before .before .before .before .before .before .before .put-start .result) (getD (c .before .before .before .before .before .before .before .before .before .before .before .before .before .before .before .before .before .before .before .before .before .before .before .before .args .t .vars) (c .before .before .before .before .before .before .before .before .before .before .before .before .before .before .before .before .before .before .before .loop .i) noVar .attrs) (length (c .before .before .before .before .before .before .loop2 .out)) ir (c .before .before .before .before .before .before .loop2 .k) (c .before .before .before .before .before .before .loop2 .q) (c .before .before .put-attr .result) noAttr (omega arith) (omega arith) (omega arith) (c .before .before .before .before .before .before .loop2 .inv .3) (rw (← e) at (c .before .before .put-attr .ensures)))
 
 put-tail-requires : tie.Need-put-tail-requires Inv-loop2 μ-loop2 Inv-loop μ-loop
 put-tail-requires c κs =
-    let fit = item-room (varOut (c .before .before .before .before .before .before .before .before .before .before .before .before .before .before .before .before .before .before .args .text .now) (c .before .before .before .before .before .before .before .before .before .before .before .before .before .before .before .before .before .before .args .version) (c .before .before .before .before .before .before .before .before .before .before .before .before .before .before .before .before .before .before .args .t5)) (c .before .before .before .before .before .before .before .before .before .before .before .before .before .before .before .before .before .before .args .t6) (c .before .before .before .before .before .before .before .before .before .before .before .before .before .before .before .before .before .before .args .at) (c .before .before .before .before .before .before .before .before .before .before .before .before .before .before .before .before .before .before .args .n) (length (c .before .before .before .before .before .before .before .before .before .before .before .before .before .before .before .loop .out)) (omega arith) (c .before .before .before .before .before .before .before .before .before .before .before .before .before .before .before .loop .i) (c .before .before .before .before .before .before .before .before .before .before .before .before .before .before .before .loop .p) noVar (omega arith) (omega arith) (c .before .before .before .before .before .before .before .before .before .before .before .before .before .before .before .loop .inv .4 .place) in
-    let g = put-last _ _ (c .before .before .loop2 .k) (getD (c .before .before .before .before .before .before .before .before .before .before .before .before .before .before .before .before .before .before .args .t6) (c .before .before .before .before .before .before .before .before .before .before .before .before .before .before .before .loop .i) noVar .attrs) (omega arith) (omega arith) (c .before .before .loop2 .inv .3) in
-    let r = tail-room (c .before .before .before .before .before .before .before .before .before .before .before .before .before .before .before .before .before .before .args .text .now) (c .before .before .before .before .before .before .before .before .before .before .before .before .before .before .before .before .before .before .args .version) (c .before .before .before .before .before .before .before .before .before .before .before .before .before .before .before .before .before .before .args .t5) (getD (c .before .before .before .before .before .before .before .before .before .before .before .before .before .before .before .before .before .before .args .t6) (c .before .before .before .before .before .before .before .before .before .before .before .before .before .before .before .loop .i) noVar) (c .before .before .before .before .before .before .before .before .before .before .before .before .before .before .before .loop .p) fit (c .before .before .before .before .before .before .before .before .before .put-shape .ensures .place) (c .before .before .before .before .before .put-start .ensures .place) (g .place) in
+    let b = c .before .before .before .before .before .before .before .before .before .before .before .before .before .before .before .loop .inv .1 in
+    let lv = c .before .before .before .before .before .before .before .before .before .before .before .before .before .before .before .loop .inv .3 in
+    let fit = item-room (varOut (c .before .before .before .before .before .before .before .before .before .before .before .before .before .before .before .before .before .before .before .before .args .text .now) (c .before .before .before .before .before .before .before .before .before .before .before .before .before .before .before .before .before .before .before .before .args .t .version) (c .before .before .before .before .before .before .before .before .before .before .before .before .before .before .before .before .before .before .before .before .args .t .attrs)) (c .before .before .before .before .before .before .before .before .before .before .before .before .before .before .before .before .before .before .before .before .args .t .vars) (c .before .before .before .before .before .before .before .before .before .before .before .before .before .before .before .before .before .before .before .before .args .at) (c .before .before .before .before .before .before .before .before .before .before .before .before .before .before .before .before .before .before .before .before .args .t .nvars) (length (c .before .before .before .before .before .before .before .before .before .before .before .before .before .before .before .loop .out)) (omega arith) (c .before .before .before .before .before .before .before .before .before .before .before .before .before .before .before .loop .i) (c .before .before .before .before .before .before .before .before .before .before .before .before .before .before .before .loop .p) noVar (omega arith) (omega arith) (c .before .before .before .before .before .before .before .before .before .before .before .before .before .before .before .loop .inv .5 .place) in
+    let g = put-last _ _ (c .before .before .loop2 .k) (getD (c .before .before .before .before .before .before .before .before .before .before .before .before .before .before .before .before .before .before .before .before .args .t .vars) (c .before .before .before .before .before .before .before .before .before .before .before .before .before .before .before .loop .i) noVar .attrs) (omega arith) (omega arith) (c .before .before .loop2 .inv .3) in
+    let r = tail-room (c .before .before .before .before .before .before .before .before .before .before .before .before .before .before .before .before .before .before .before .before .args .text .now) (c .before .before .before .before .before .before .before .before .before .before .before .before .before .before .before .before .before .before .before .before .args .t .version) (c .before .before .before .before .before .before .before .before .before .before .before .before .before .before .before .before .before .before .before .before .args .t .attrs) (getD (c .before .before .before .before .before .before .before .before .before .before .before .before .before .before .before .before .before .before .before .before .args .t .vars) (c .before .before .before .before .before .before .before .before .before .before .before .before .before .before .before .loop .i) noVar) (c .before .before .before .before .before .before .before .before .before .before .before .before .before .before .before .loop .p) fit (c .before .before .before .before .before .before .before .before .before .put-shape .ensures .place) (c .before .before .before .before .before .put-start .ensures .place) (g .place) in
     omega arith
 
 add-i : tie.Need-add-i Inv-loop2 μ-loop2 Inv-loop μ-loop
@@ -104,16 +117,18 @@ loop-less c = search needs
 
 loop-again : tie.Need-loop-again Inv-loop2 μ-loop2 Inv-loop μ-loop
 loop-again c =
-    let fit = item-room (varOut (c .before .before .before .before .before .before .before .before .before .before .before .before .before .before .before .before .before .before .before .before .before .args .text .now) (c .before .before .before .before .before .before .before .before .before .before .before .before .before .before .before .before .before .before .before .before .before .args .version) (c .before .before .before .before .before .before .before .before .before .before .before .before .before .before .before .before .before .before .before .before .before .args .t5)) (c .before .before .before .before .before .before .before .before .before .before .before .before .before .before .before .before .before .before .before .before .before .args .t6) (c .before .before .before .before .before .before .before .before .before .before .before .before .before .before .before .before .before .before .before .before .before .args .at) (c .before .before .before .before .before .before .before .before .before .before .before .before .before .before .before .before .before .before .before .before .before .args .n) (length (c .before .before .before .before .before .before .before .before .before .before .before .before .before .before .before .before .before .before .loop .out)) (omega arith) (c .before .before .before .before .before .before .before .before .before .before .before .before .before .before .before .before .before .before .loop .i) (c .before .before .before .before .before .before .before .before .before .before .before .before .before .before .before .before .before .before .loop .p) noVar (omega arith) (omega arith) (c .before .before .before .before .before .before .before .before .before .before .before .before .before .before .before .before .before .before .loop .inv .4 .place) in
-    let g = put-last _ _ (c .before .before .before .before .before .loop2 .k) (getD (c .before .before .before .before .before .before .before .before .before .before .before .before .before .before .before .before .before .before .before .before .before .args .t6) (c .before .before .before .before .before .before .before .before .before .before .before .before .before .before .before .before .before .before .loop .i) noVar .attrs) (omega arith) (omega arith) (c .before .before .before .before .before .loop2 .inv .3) in
-    let w = put-var (c .before .before .before .before .before .before .before .before .before .before .before .before .before .before .before .before .before .before .before .before .before .args .text .now) (c .before .before .before .before .before .before .before .before .before .before .before .before .before .before .before .before .before .before .before .before .before .args .version) (c .before .before .before .before .before .before .before .before .before .before .before .before .before .before .before .before .before .before .before .before .before .args .t5) (getD (c .before .before .before .before .before .before .before .before .before .before .before .before .before .before .before .before .before .before .before .before .before .args .t6) (c .before .before .before .before .before .before .before .before .before .before .before .before .before .before .before .before .before .before .loop .i) noVar) fit (search needs) (c .before .before .before .before .before .before .before .before .before .before .before .before .put-shape .ensures) (c .before .before .before .before .before .before .before .before .put-start .ensures) g (c .before .before .put-tail .ensures) in
-    (omega arith, search needs, search needs, search needs, put-item (varOut (c .before .before .before .before .before .before .before .before .before .before .before .before .before .before .before .before .before .before .before .before .before .args .text .now) (c .before .before .before .before .before .before .before .before .before .before .before .before .before .before .before .before .before .before .before .before .before .args .version) (c .before .before .before .before .before .before .before .before .before .before .before .before .before .before .before .before .before .before .before .before .before .args .t5)) (c .before .before .before .before .before .before .before .before .before .before .before .before .before .before .before .before .before .before .before .before .before .args .t6) (c .before .before .before .before .before .before .before .before .before .before .before .before .before .before .before .before .before .before .before .before .before .args .at) (c .before .before .before .before .before .before .before .before .before .before .before .before .before .before .before .before .before .before .before .before .before .args .n) (length (c .before .before .before .before .before .before .before .before .before .before .before .before .before .before .before .before .before .before .before .before .before .args .out .now)) (omega arith) (c .before .before .before .before .before .before .before .before .before .before .before .before .before .before .before .before .before .before .loop .i) (c .before .before .before .before .before .before .before .before .before .before .before .before .before .before .before .before .before .before .loop .p) (c .before .before .put-tail .result) noVar (omega arith) (omega arith) refl (c .before .before .before .before .before .before .before .before .before .before .before .before .before .before .before .before .before .before .loop .inv .4) w)
+    let b = c .before .before .before .before .before .before .before .before .before .before .before .before .before .before .before .before .before .before .loop .inv .1 in
+    let lv = c .before .before .before .before .before .before .before .before .before .before .before .before .before .before .before .before .before .before .loop .inv .3 in
+    let fit = item-room (varOut (c .before .before .before .before .before .before .before .before .before .before .before .before .before .before .before .before .before .before .before .before .before .before .before .args .text .now) (c .before .before .before .before .before .before .before .before .before .before .before .before .before .before .before .before .before .before .before .before .before .before .before .args .t .version) (c .before .before .before .before .before .before .before .before .before .before .before .before .before .before .before .before .before .before .before .before .before .before .before .args .t .attrs)) (c .before .before .before .before .before .before .before .before .before .before .before .before .before .before .before .before .before .before .before .before .before .before .before .args .t .vars) (c .before .before .before .before .before .before .before .before .before .before .before .before .before .before .before .before .before .before .before .before .before .before .before .args .at) (c .before .before .before .before .before .before .before .before .before .before .before .before .before .before .before .before .before .before .before .before .before .before .before .args .t .nvars) (length (c .before .before .before .before .before .before .before .before .before .before .before .before .before .before .before .before .before .before .loop .out)) (omega arith) (c .before .before .before .before .before .before .before .before .before .before .before .before .before .before .before .before .before .before .loop .i) (c .before .before .before .before .before .before .before .before .before .before .before .before .before .before .before .before .before .before .loop .p) noVar (omega arith) (omega arith) (c .before .before .before .before .before .before .before .before .before .before .before .before .before .before .before .before .before .before .loop .inv .5 .place) in
+    let g = put-last _ _ (c .before .before .before .before .before .loop2 .k) (getD (c .before .before .before .before .before .before .before .before .before .before .before .before .before .before .before .before .before .before .before .before .before .before .before .args .t .vars) (c .before .before .before .before .before .before .before .before .before .before .before .before .before .before .before .before .before .before .loop .i) noVar .attrs) (omega arith) (omega arith) (c .before .before .before .before .before .loop2 .inv .3) in
+    let w = put-var (c .before .before .before .before .before .before .before .before .before .before .before .before .before .before .before .before .before .before .before .before .before .before .before .args .text .now) (c .before .before .before .before .before .before .before .before .before .before .before .before .before .before .before .before .before .before .before .before .before .before .before .args .t .version) (c .before .before .before .before .before .before .before .before .before .before .before .before .before .before .before .before .before .before .before .before .before .before .before .args .t .attrs) (getD (c .before .before .before .before .before .before .before .before .before .before .before .before .before .before .before .before .before .before .before .before .before .before .before .args .t .vars) (c .before .before .before .before .before .before .before .before .before .before .before .before .before .before .before .before .before .before .loop .i) noVar) fit (search needs) (c .before .before .before .before .before .before .before .before .before .before .before .before .put-shape .ensures) (c .before .before .before .before .before .before .before .before .put-start .ensures) g (c .before .before .put-tail .ensures) in
+    (omega arith, search needs, search needs, search needs, search needs, put-item (varOut (c .before .before .before .before .before .before .before .before .before .before .before .before .before .before .before .before .before .before .before .before .before .before .before .args .text .now) (c .before .before .before .before .before .before .before .before .before .before .before .before .before .before .before .before .before .before .before .before .before .before .before .args .t .version) (c .before .before .before .before .before .before .before .before .before .before .before .before .before .before .before .before .before .before .before .before .before .before .before .args .t .attrs)) (c .before .before .before .before .before .before .before .before .before .before .before .before .before .before .before .before .before .before .before .before .before .before .before .args .t .vars) (c .before .before .before .before .before .before .before .before .before .before .before .before .before .before .before .before .before .before .before .before .before .before .before .args .at) (c .before .before .before .before .before .before .before .before .before .before .before .before .before .before .before .before .before .before .before .before .before .before .before .args .t .nvars) (length (c .before .before .before .before .before .before .before .before .before .before .before .before .before .before .before .before .before .before .before .before .before .before .before .args .out .now)) (omega arith) (c .before .before .before .before .before .before .before .before .before .before .before .before .before .before .before .before .before .before .loop .i) (c .before .before .before .before .before .before .before .before .before .before .before .before .before .before .before .before .before .before .loop .p) (c .before .before .put-tail .result) noVar (omega arith) (omega arith) refl (c .before .before .before .before .before .before .before .before .before .before .before .before .before .before .before .before .before .before .loop .inv .5) w)
 
 same-length : tie.Need-same-length Inv-loop2 μ-loop2 Inv-loop μ-loop
 same-length c = search needs
 
 returns : tie.Need-returns Inv-loop2 μ-loop2 Inv-loop μ-loop
-returns c = put-last _ _ (c .before .loop .i) (c .before .before .before .before .args .n) (omega arith) (omega arith) (c .before .loop .inv .4)
+returns c = put-last _ _ (c .before .loop .i) (c .before .before .before .before .before .before .args .t .nvars) (omega arith) (omega arith) (c .before .loop .inv .5)
 
 pub put-var-rows-spec : {M : Type 1} → statement M
 put-var-rows-spec =
