@@ -45,6 +45,10 @@ fn globals_len(t: Tables) -> u64
     requires { ⌜ t .globals ≤ 128 ⌝ }
     ensures { λ r. ⌜ (r ≡ attrsLength (t .attrs) 0 (t .globals)) × (r ≤ 8796093022208) ⌝ }
 {
+    // an empty list is not worth a copy of the rows
+    if t.globals == 0 {
+        return 0;
+    }
     let rows = t.attrs;
     let mut sum = 0;
     let mut i = 0;

@@ -37,6 +37,10 @@ unfolding total
 sum-more g i e f = rw (add-one, e, f)
 
 -- the lengths of lists, and of what they are made of
+pub attrs-none : (rows : List Attr) (first : ℕ) {n : ℕ} → n ≡ 0 → 0 ≡ attrsLength rows first n
+unfolding attrsLength total
+attrs-none rows first e = rw e
+
 -- the rows of the global attributes start at 0
 pub length-from-zero : (rows : List Attr) (i : ℕ) {x : ℕ} → x ≡ attrLength (getD rows i noAttr) → x ≡ attrLength (getD rows (0 + i) noAttr)
 length-from-zero rows i e = e ∙ sym (ap (λ k. attrLength (getD rows k noAttr)) (zero-add i))

@@ -5,7 +5,7 @@ use lib.ListN.{getD}
 use Rattle.sizes.specs.Records.{total}
 use Rattle.grammar.specs.Tables.{noAttr}
 use Rattle.order.specs.Inner.Lengths.{attrLength}
-use Rattle.order.proofs.Laws.Sums.{sum-none, sum-more, length-from-zero, attrs-all}
+use Rattle.order.proofs.Laws.Sums.{sum-none, sum-more, attrs-none, length-from-zero, attrs-all}
 use borrow.Author.Needs.{needs}
 use Rattle.order.proofs.length.globals_len.Statement.{statement}
 use Rattle.order.proofs.length.globals_len.Tie as tie
@@ -15,6 +15,9 @@ Inv-loop t rows sum₀ i₀ sum i = (i ≤ t .globals) × (t .globals ≤ 128) �
 
 abbrev μ-loop : tie.MeasureT-loop
 μ-loop t rows sum₀ i₀ sum i = t .globals - i
+
+returns : tie.Need-returns Inv-loop μ-loop
+returns c = (attrs-none _ _ (c .if1 .taken), search needs)
 
 loop-holds : tie.Need-loop-holds Inv-loop μ-loop
 loop-holds c = (omega arith, search needs, omega arith, sum-none _)
@@ -38,10 +41,10 @@ loop-less : tie.Need-loop-less Inv-loop μ-loop
 loop-less c = search needs
 
 loop-again : tie.Need-loop-again Inv-loop μ-loop
-loop-again c = (omega arith, search needs, search needs, sum-more _ _ (c .before .before .before .before .loop .inv .3) (length-from-zero (c .before .before .before .before .before .before .args .t .attrs) (c .before .before .before .before .loop .i) (c .attr-len .ensures .0)))
+loop-again c = (omega arith, search needs, search needs, sum-more _ _ (c .before .before .before .before .loop .inv .3) (length-from-zero (c .before .before .before .before .before .before .before .before .args .t .attrs) (c .before .before .before .before .loop .i) (c .attr-len .ensures .0)))
 
-returns : tie.Need-returns Inv-loop μ-loop
-returns c = (attrs-all _ _ (omega arith) (c .before .before .loop .inv .3), search needs)
+returns-2 : tie.Need-returns-2 Inv-loop μ-loop
+returns-2 c = (attrs-all _ _ (omega arith) (c .before .before .loop .inv .3), search needs)
 
 pub globals-len-spec : {M : Type 1} → statement M
 globals-len-spec =
@@ -49,6 +52,7 @@ globals-len-spec =
     (tie.spec
     Inv-loop
     μ-loop
+    returns
     loop-holds
     mul-attr-len
     array-copy-out-attr-len
@@ -57,4 +61,4 @@ globals-len-spec =
     add-i
     loop-less
     loop-again
-    returns)
+    returns-2)
