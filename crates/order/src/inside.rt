@@ -89,11 +89,10 @@ fn vars_inside(text: &[u8], t: Tables) -> bool
     requires { ⌜ t .nvars ≤ 64 ⌝ }
     ensures { λ r. ⌜ r ≡ allBelow (t .nvars) (varInside (now (text .entry)) t) ⌝ }
 {
-    let rows = t.vars;
     let n = t.nattrs;
     let mut i = 0;
     while i < t.nvars {
-        if !var_inside(text, rows[i], n) {
+        if !var_inside(text, t.vars[i], n) {
             return false;
         }
         i += 1;

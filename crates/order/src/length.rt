@@ -94,19 +94,17 @@ fn vars_len(t: Tables) -> u64
     requires { ⌜ CountsHold t ⌝ }
     ensures { λ r. ⌜ (r ≡ varsLength t) × (r ≤ 1125899906842624) ⌝ }
 {
-    let rows = t.vars;
-    let attrs = t.attrs;
     let version = t.version;
     let mut sum = 0;
     let mut i = 0;
     while i < t.nvars {
-        let v = rows[i];
+        let v = t.vars[i];
         let first = v.first as usize;
         let n = v.attrs as usize;
         let mut own = 0;
         let mut k = 0;
         while k < n {
-            own += attr_len(attrs[first + k]);
+            own += attr_len(t.attrs[first + k]);
             k += 1;
         }
         sum += var_len(version, v) + own;

@@ -19,11 +19,10 @@ pub(crate) fn attributes_fit(t: Tables) -> bool
     requires { ⌜ (t .nvars ≤ 64) × (t .globals ≤ 128) ⌝ }
     ensures { λ r. ⌜ r ≡ attributesTested t ⌝ }
 {
-    let rows = t.vars;
     let mut sum = t.globals;
     let mut i = 0;
     while i < t.nvars {
-        let v = rows[i];
+        let v = t.vars[i];
         sum += v.attrs as usize;
         i += 1;
     }

@@ -158,12 +158,10 @@ fn vars_hold(text: &[u8], t: Tables) -> bool
     requires { ⌜ rowsInside (now text) t ≡ true ⌝ }
     ensures { λ r. ⌜ r ≡ varsTested (now (text .entry)) t ⌝ }
 {
-    let rows = t.vars;
-    let attrs = t.attrs;
     let version = t.version;
     let mut i = 0;
     while i < t.nvars {
-        let v = rows[i];
+        let v = t.vars[i];
         if !var_holds(text, v, version) {
             return false;
         }
@@ -171,7 +169,7 @@ fn vars_hold(text: &[u8], t: Tables) -> bool
         let n = v.attrs as usize;
         let mut k = 0;
         while k < n {
-            if !attr_holds(text, attrs[first + k]) {
+            if !attr_holds(text, t.attrs[first + k]) {
                 return false;
             }
             k += 1;

@@ -63,19 +63,17 @@ fn put_var_rows(out: &mut [u8], at: usize, text: &[u8], t: Tables) -> usize
 {
     let version = t.version;
     let n = t.nvars;
-    let attrs = t.attrs;
-    let rows = t.vars;
     let mut p = at;
     let mut i = 0;
     while i < n {
-        let v = rows[i];
+        let v = t.vars[i];
         let first = v.first as usize;
         let own = v.attrs as usize;
         let list = put_shape(out, p, text, v);
         let mut q = put_start(out, list, 12, own);
         let mut k = 0;
         while k < own {
-            let a = attrs[first + k];
+            let a = t.attrs[first + k];
             q = put_attr(out, q, text, a);
             k += 1;
         }

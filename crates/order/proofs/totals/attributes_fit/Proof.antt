@@ -8,10 +8,10 @@ use Rattle.order.proofs.totals.attributes_fit.Statement.{statement}
 use Rattle.order.proofs.totals.attributes_fit.Tie as tie
 
 abbrev Inv-loop : tie.InvT-loop
-Inv-loop t rows sum₀ i₀ sum i = (i ≤ t .nvars) × (t .nvars ≤ 64) × (t .globals ≤ 128) × (sum ≤ 128 + i * 255) × (sum ≡ attributesUpto t i)
+Inv-loop t sum₀ i₀ sum i = (i ≤ t .nvars) × (t .nvars ≤ 64) × (t .globals ≤ 128) × (sum ≤ 128 + i * 255) × (sum ≡ attributesUpto t i)
 
 abbrev μ-loop : tie.MeasureT-loop
-μ-loop t rows sum₀ i₀ sum i = t .nvars - i
+μ-loop t sum₀ i₀ sum i = t .nvars - i
 
 loop-holds : tie.Need-loop-holds Inv-loop μ-loop
 loop-holds c = (omega arith, search needs, search needs, search needs, upto-none _)
@@ -19,8 +19,8 @@ loop-holds c = (omega arith, search needs, search needs, search needs, upto-none
 mul-v : tie.Need-mul-v Inv-loop μ-loop
 mul-v c = search needs
 
-array-copy-out-v : tie.Need-array-copy-out-v Inv-loop μ-loop
-array-copy-out-v c = search needs
+element-copy-out-v : tie.Need-element-copy-out-v Inv-loop μ-loop
+element-copy-out-v c = search needs
 
 cast-sum : tie.Need-cast-sum Inv-loop μ-loop
 cast-sum c = search needs
@@ -35,10 +35,10 @@ loop-less : tie.Need-loop-less Inv-loop μ-loop
 loop-less c = search needs
 
 loop-again : tie.Need-loop-again Inv-loop μ-loop
-loop-again c = (omega arith, search needs, search needs, search needs, upto-more _ _ (c .before .before .before .before .loop .inv .4) refl)
+loop-again c = (omega arith, search needs, search needs, search needs, upto-more _ _ (c .before .before .before .loop .inv .4) refl)
 
 returns : tie.Need-returns Inv-loop μ-loop
-returns c = upto-all _ (omega arith) (c .before .before .loop .inv .4)
+returns c = upto-all _ (omega arith) (c .before .loop .inv .4)
 
 pub attributes-fit-spec : {M : Type 1} → statement M
 attributes-fit-spec =
@@ -48,7 +48,7 @@ attributes-fit-spec =
     μ-loop
     loop-holds
     mul-v
-    array-copy-out-v
+    element-copy-out-v
     cast-sum
     add-sum
     add-i
