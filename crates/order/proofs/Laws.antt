@@ -7,4 +7,5 @@ pub mod Rows
 pub mod Words
 pub mod Lists
 pub mod Lengths
+pub mod Tested
 pub mod Said

@@ -2,7 +2,7 @@
 use Prim.Native.Nat.{ℕ, _+_, _-_, _≤_, _<_}
 use native.Mathlib.Omega.{arith}
 use mathlib.Core.Path.{_≡_, sym, _∙_}
-use mathlib.Core.Bool.{Bool, true, false, not, _&&_, and-true}
+use mathlib.Core.Bool.{Bool, true, false, not, _&&_, and-true, and-false, false≢true}
 use mathlib.Core.Logic.{⊎-elim}
 use lib.Dec.{leb, eqb}
 use borrow.Author.Tests.{not-true, not-false, le-leb, lt-leb, ne-eqb}
@@ -23,6 +23,14 @@ ended b e = rw e
 
 pub passed : {a b r : Bool} → a ≡ true → r ≡ b → r ≡ (a && b)
 passed e f = rw (e, f)
+
+-- a later test fails
+pub later : (a : Bool) {b : Bool} → b ≡ false → false ≡ (a && b)
+later a e = rw e (sym (and-false a))
+
+-- an answer of two parts where a test fails
+pub refused : {r x : Bool} {P : Type 0} → r ≡ false → false ≡ x → (r ≡ x) × (r ≡ true → P)
+refused e f = (e ∙ f, λ h. absurd (false≢true (sym e ∙ h)))
 
 -- a test of every row below n
 pub row-fails : (p : ℕ → Bool) {n : ℕ} (i : ℕ) → i < n → p i ≡ false → false ≡ allBelow n p

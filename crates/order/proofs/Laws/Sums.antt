@@ -6,7 +6,6 @@ use native.Mathlib.Nat.{mul-le-mul-left, zero-add}
 use mathlib.Core.Path.{_≡_, refl, sym, ap, _∙_}
 use mathlib.Core.List.{List}
 use lib.ListN.{getD, List·getD-eq-default}
-use Rattle.cdf.specs.Form.{form}
 use Rattle.cdf.specs.Padding.{padding}
 use Rattle.items.specs.Types.{sizes, sizeOf}
 use Rattle.grammar.specs.Tables.{noAttr, dimAt, varAt}
@@ -36,15 +35,11 @@ pub sum-more : (g : ℕ → ℕ) (i : ℕ) {x y : ℕ} → x ≡ total g i → y
 unfolding total
 sum-more g i e f = rw (add-one, e, f)
 
--- the lengths of lists, and of what they are made of
-pub attrs-none : (rows : List Attr) (first : ℕ) {n : ℕ} → n ≡ 0 → 0 ≡ attrsLength rows first n
-unfolding attrsLength total
-attrs-none rows first e = rw e
-
 -- the rows of the global attributes start at 0
 pub length-from-zero : (rows : List Attr) (i : ℕ) {x : ℕ} → x ≡ attrLength (getD rows i noAttr) → x ≡ attrLength (getD rows (0 + i) noAttr)
 length-from-zero rows i e = e ∙ sym (ap (λ k. attrLength (getD rows k noAttr)) (zero-add i))
 
+-- the lengths of lists, and of what they are made of
 pub attrs-all : (rows : List Attr) (first : ℕ) {i n x : ℕ} → i ≡ n → x ≡ total (λ j. attrLength (getD rows (first + j) noAttr)) i → x ≡ attrsLength rows first n
 unfolding attrsLength
 attrs-all rows first e f = rw (← e, f)
@@ -60,9 +55,6 @@ dims-all t e f = f ∙ ap (total (λ j. dimLength (dimAt t j))) e
 pub vars-all : (t : Tables) {i x : ℕ} → i ≡ t .nvars → x ≡ total (λ j. varLength t (varAt t j)) i → x ≡ varsLength t
 unfolding varsLength
 vars-all t e f = f ∙ ap (total (λ j. varLength t (varAt t j))) e
-
-pub var-by : (version : ℕ) (v : Var) {n b : ℕ} → n ≡ nameLength (v .chars) → b ≡ form version .beginBytes → n + 4 + 4 * v .rank + 8 + 8 + b ≡ varAlone version v
-var-by version v e g = rw (e, g)
 
 -- what is read of a variable, and its attributes
 pub var-all : (t : Tables) (v : Var) {x y : ℕ} → x ≡ varAlone (t .version) v → y ≡ attrsLength (t .attrs) (v .first) (v .attrs) → x + y ≡ varLength t v

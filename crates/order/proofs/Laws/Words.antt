@@ -26,7 +26,7 @@ use Rattle.grammar.specs.declared.tables.Var.{Var}
 use Rattle.grammar.specs.declared.tables.Tables.{Tables}
 use Rattle.rules.proofs.Laws.Sound.{length-part}
 use Rattle.rules.proofs.Laws.Views.{IsShort, DimInRange, AttrInRange, IsOpenWord, IsCode, IsText, version-tell}
-use Rattle.order.specs.Inner.Tests.{openTested, codeTested, nameTested, dimTested, attrTested, attrsTested, varTested, varAllTested, dimsTested, varsTested, wordsTested}
+use Rattle.order.specs.Inner.Tests.{openTested, codeTested, nameTested, dimTested, attrTested, attrsTested, varTested, varAllTested, dimsTested, varsTested}
 
 pub and : {a b : Bool} → a ≡ true → b ≡ true → (a && b) ≡ true
 and e f = rw (e, f)
@@ -129,30 +129,31 @@ pub record WordsAre (s : List ℕ) (t : Tables) : Type 0 where
   pub attrs : (i : ℕ) → i < t .nvars → (j : ℕ) → j < varAt t i .attrs → attrTested s (attrAt t (varAt t i .first + j)) ≡ true
 
 module _ (s : List ℕ) (t : Tables) where
-  pub words-tell : WordsAre s t → wordsTested s t ≡ true
-  unfolding wordsTested dimsTested attrsTested varsTested
-  words-tell k =
-      and (version-tell (t .version) (k .version))
-      (and (open-tell (t .word) (k .word))
-      (and (all-hold (λ i. dimTested s (dimAt t i)) (t .ndims) (k .dims))
-      (and (all-hold (λ j. attrTested s (attrAt t (0 + j))) (t .globals) (λ j l. subst (λ (n : ℕ). attrTested s (attrAt t n) ≡ true) (sym (zero-add j)) (k .globals j l)))
-      (all-hold (λ i. varAllTested s t (varAt t i)) (t .nvars)
-      (λ i l. and (k .vars i l) (all-hold (λ j. attrTested s (attrAt t (varAt t i .first + j))) (varAt t i .attrs) (k .attrs i l)))))))
+  -- the tests of the words, of the dimensions, of the global attributes, of the variables
+  abbrev pub WordsTested : Type 0
+  WordsTested = (admits bothVersions (t .version) ≡ true) × (openTested (t .word) ≡ true) × (dimsTested s t ≡ true) × (attrsTested s (t .attrs) 0 (t .globals) ≡ true) × (varsTested s t ≡ true)
 
-  pub words-see : wordsTested s t ≡ true → WordsAre s t
-  unfolding wordsTested dimsTested attrsTested varsTested
+  pub words-tell : WordsAre s t → WordsTested
+  unfolding dimsTested attrsTested varsTested
+  words-tell k = (
+    version-tell (t .version) (k .version),
+    open-tell (t .word) (k .word),
+    all-hold (λ i. dimTested s (dimAt t i)) (t .ndims) (k .dims),
+    all-hold (λ j. attrTested s (attrAt t (0 + j))) (t .globals) (λ j l. subst (λ (n : ℕ). attrTested s (attrAt t n) ≡ true) (sym (zero-add j)) (k .globals j l)),
+    all-hold (λ i. varAllTested s t (varAt t i)) (t .nvars)
+        (λ i l. and (k .vars i l) (all-hold (λ j. attrTested s (attrAt t (varAt t i .first + j))) (varAt t i .attrs) (k .attrs i l))),
+  )
+
+  pub words-see : WordsTested → WordsAre s t
+  unfolding dimsTested attrsTested varsTested
   words-see k =
-      let a = both (admits bothVersions (t .version)) _ k in
-      let b = both (openTested (t .word)) _ (a .1) in
-      let d = both (allBelow (t .ndims) (λ i. dimTested s (dimAt t i))) _ (b .1) in
-      let e = both (allBelow (t .globals) (λ j. attrTested s (attrAt t (0 + j)))) (allBelow (t .nvars) (λ i. varAllTested s t (varAt t i))) (d .1) in
       record {
-        version = version-see (t .version) (a .0);
-        word = open-see (t .word) (b .0);
-        dims = λ i l. holds-at (λ i. dimTested s (dimAt t i)) (t .ndims) i (d .0) l;
-        globals = λ i l. subst (λ (n : ℕ). attrTested s (attrAt t n) ≡ true) (zero-add i) (holds-at (λ j. attrTested s (attrAt t (0 + j))) (t .globals) i (e .0) l);
-        vars = λ i l. each i (holds-at (λ i. varAllTested s t (varAt t i)) (t .nvars) i (e .1) l) .0;
-        attrs = λ i l. each i (holds-at (λ i. varAllTested s t (varAt t i)) (t .nvars) i (e .1) l) .1;
+        version = version-see (t .version) (k .0);
+        word = open-see (t .word) (k .1);
+        dims = λ i l. holds-at (λ i. dimTested s (dimAt t i)) (t .ndims) i (k .2) l;
+        globals = λ i l. subst (λ (n : ℕ). attrTested s (attrAt t n) ≡ true) (zero-add i) (holds-at (λ j. attrTested s (attrAt t (0 + j))) (t .globals) i (k .3) l);
+        vars = λ i l. each i (holds-at (λ i. varAllTested s t (varAt t i)) (t .nvars) i (k .4) l) .0;
+        attrs = λ i l. each i (holds-at (λ i. varAllTested s t (varAt t i)) (t .nvars) i (k .4) l) .1;
       }
     where
       each : (i : ℕ) → varAllTested s t (varAt t i) ≡ true → (varTested s (t .version) (varAt t i) ≡ true) × ((j : ℕ) → j < varAt t i .attrs → attrTested s (attrAt t (varAt t i .first + j)) ≡ true)

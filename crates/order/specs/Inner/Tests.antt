@@ -13,7 +13,7 @@ use Rattle.cdf.specs.Word.{indeterminate}
 use Rattle.items.specs.Name.{longestName, part}
 use Rattle.items.specs.Types.{sizeOf}
 use Rattle.items.specs.Utf8.{utf8}
-use Rattle.grammar.specs.Tables.{maxAttrs, maxRank, noAttr, dimAt, varAt}
+use Rattle.grammar.specs.Tables.{maxDims, maxVars, maxAttrs, maxRank, noAttr, dimAt, varAt}
 use Rattle.grammar.specs.declared.tables.Dim.{Dim}
 use Rattle.grammar.specs.declared.tables.Attr.{Attr}
 use Rattle.grammar.specs.declared.tables.Var.{Var}
@@ -21,7 +21,7 @@ use Rattle.grammar.specs.declared.tables.Tables.{Tables}
 use Rattle.model.specs.Model.{modelHolds}
 use Rattle.sizes.specs.Records.{total, sizesHold, endsHold, maxPosition}
 use Rattle.sizes.specs.Count.{recordCount}
-use Rattle.order.specs.Writable.{rowsInside}
+use Rattle.order.specs.Writable.{dimInside, attrInside, varInside}
 use Rattle.order.specs.Inner.Lengths.{headerLength}
 
 -- a word that is not negative, or indeterminate
@@ -77,15 +77,6 @@ module _ (s : List ℕ) where
   unfoldable pub varsTested : Tables → Bool
   varsTested t = allBelow (t .nvars) (λ i. varAllTested t (varAt t i))
 
-  -- "words in range", "UTF-8", "version", and of the capacities the lengths of names
-  unfoldable pub wordsTested : Tables → Bool
-  wordsTested t =
-      admits bothVersions (t .version)
-      && (openTested (t .word)
-      && (dimsTested t
-      && (attrsTested (t .attrs) 0 (t .globals)
-      && varsTested t)))
-
 -- the attributes of the globals and of the first n variables
 unfoldable pub attributesUpto : Tables → ℕ → ℕ
 attributesUpto t n = t .globals + total (λ i. varAt t i .attrs) n
@@ -93,6 +84,29 @@ attributesUpto t n = t .globals + total (λ i. varAt t i .attrs) n
 -- 01, Capacities: "128 attributes over all lists"
 abbrev pub attributesTested : Tables → Bool
 attributesTested t = leb (attributesUpto t (t .nvars)) maxAttrs
+
+-- the counts within the tables, the version, the count word
+unfoldable pub countsTested : Tables → Bool
+countsTested t =
+    leb (t .ndims) maxDims
+    && (leb (t .nvars) maxVars
+    && (leb (t .nattrs) maxAttrs
+    && (leb (t .globals) (t .nattrs)
+    && (admits bothVersions (t .version)
+    && openTested (t .word)))))
+
+module _ (s : List ℕ) (t : Tables) where
+  -- the rows of the dimensions
+  unfoldable pub dimRowsTested : Bool
+  dimRowsTested = allBelow (t .ndims) (dimInside s t) && dimsTested s t
+
+  -- the rows of all attributes inside the text, and the global ones in range
+  unfoldable pub attrRowsTested : Bool
+  attrRowsTested = allBelow (t .nattrs) (attrInside s t) && attrsTested s (t .attrs) 0 (t .globals)
+
+  -- the rows of the variables with their attributes, and the number of attributes
+  unfoldable pub varRowsTested : Bool
+  varRowsTested = allBelow (t .nvars) (varInside s t) && (varsTested s t && attributesTested t)
 
 -- the record count is that of the tables
 unfoldable pub countTested : Tables → Bool
@@ -109,8 +123,9 @@ sizeTested t = leb (headerLength t) (t .size) && leb (t .size) maxPosition
 -- all that the code tests before the size
 unfoldable pub tested : List ℕ → Tables → Bool
 tested s t =
-    rowsInside s t
-    && (wordsTested s t
-    && (attributesTested t
+    countsTested t
+    && (dimRowsTested s t
+    && (attrRowsTested s t
+    && (varRowsTested s t
     && (modelHolds s t
-    && sizesTested t)))
+    && sizesTested t))))

@@ -17,13 +17,12 @@ use Rattle.grammar.specs.Tables.{noAttr, attrAt, varAt}
 use Rattle.grammar.specs.declared.tables.Attr.{Attr}
 use Rattle.grammar.specs.declared.tables.Tables.{Tables}
 use Rattle.rules.specs.Encode.{encode}
-use Rattle.order.specs.Writable.{rowsInside, toWrite, writable}
-use Rattle.order.specs.Inner.Tests.{nameTested, codeTested, attrTested, wordsTested, sizeTested, tested}
+use Rattle.order.specs.Writable.{toWrite, writable}
+use Rattle.order.specs.Inner.Tests.{nameTested, codeTested, attrTested, sizeTested, tested}
 use Rattle.order.specs.Inner.Lengths.{headerLength}
 use Rattle.order.proofs.Laws.Inside.{Inside, inside}
 use Rattle.order.proofs.Laws.Rows.{FullRows}
-use Rattle.order.proofs.Laws.Words.{words-see}
-use Rattle.order.proofs.Laws.Said.{tested-is}
+use Rattle.order.proofs.Laws.Said.{RowsAre, tested-rows, tested-is}
 use Rattle.order.proofs.Laws.Lengths.{encoded-length}
 use Rattle.writer.specs.Inner.Put.{Put}
 use Rattle.writer.specs.Inner.Parts.{headerOut, AttrIn, VarIn, RowsIn}
@@ -50,12 +49,11 @@ module _ (s : List ℕ) (t : Tables) (out : List ℕ) where
 
 -- tables that can be written have their rows inside the text
 module _ (s : List ℕ) (t : Tables) (full : FullRows t) (ok : writable s t ≡ true) where
-  seen : tested s t ≡ true
-  seen = both (tested s t) (sizeTested t) (tested-is s t full ∙ ok) .0
+  seen : RowsAre s t
+  seen = tested-rows s t (both (tested s t) (sizeTested t) (tested-is s t full ∙ ok) .0)
 
   rows : Inside s t
-  unfolding tested
-  rows = inside (both (rowsInside s t) _ seen .0)
+  rows = inside (seen .rows)
 
   attr-in : (i : ℕ) → i < t .nattrs → attrTested s (attrAt t i) ≡ true → AttrIn s (attrAt t i)
   unfolding attrTested
@@ -66,9 +64,8 @@ module _ (s : List ℕ) (t : Tables) (full : FullRows t) (ok : writable s t ≡ 
       record { name = rows .attrs i h; low = leb-true _ _ (b .0); high = leb-true _ _ (b .1); values = rows .values i h }
 
   pub rows-in : RowsIn s t
-  unfolding tested
   rows-in =
-      let w = words-see s t (both (wordsTested s t) _ (both (rowsInside s t) _ seen .1) .0) in
+      let w = seen .words in
       let k = rows .counted in
       let g = k .globals in
       let a = k .attrs in

@@ -1,7 +1,6 @@
 use Rattle.order.proofs.Laws.Totals.{size-short, size-long}
 use mathlib.Core.Path.{refl}
 use Rattle.order.proofs.Laws.Chain.{ended, passed}
-use borrow.Author.Needs.{needs}
 use Rattle.order.proofs.totals.size_holds.Statement.{statement}
 use Rattle.order.proofs.totals.size_holds.Tie as tie
 
