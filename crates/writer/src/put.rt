@@ -46,6 +46,20 @@ pub(crate) fn put_word(out: &mut [u8], at: usize, v: u64) -> usize
     at + 4
 }
 
+// The `n` zeros of a padding: its first byte, one in the middle, its last, which for so few are all; a loop would become a call.
+fn put_padding(out: &mut [u8], at: usize, n: usize) -> usize
+    requires { ⌜ (n ≤ 3) × (at + n ≤ length (now out)) ⌝ }
+    ensures { λ r. ⌜ Put (now (out .entry)) at (replicate n 0) (now (out .exit)) r ⌝ }
+{
+    if n == 0 {
+        return at;
+    }
+    out[at] = 0;
+    out[at + n / 2] = 0;
+    out[at + n - 1] = 0;
+    at + n
+}
+
 // Bytes and their padding.
 pub(crate) fn put_padded(out: &mut [u8], at: usize, more: &[u8]) -> usize
     requires { ⌜ at + length (paddedOut (now more)) ≤ length (now out) ⌝ }
@@ -53,7 +67,7 @@ pub(crate) fn put_padded(out: &mut [u8], at: usize, more: &[u8]) -> usize
 {
     let end = put_bytes(out, at, more);
     let n = compute_padding_size(more.len() as u64) as usize;
-    put_zeros(out, end, n)
+    put_padding(out, end, n)
 }
 
 // A name, which stands in the text at `name`.

@@ -6,7 +6,7 @@ use native.Mathlib.Numerals.{add-one}
 use mathlib.Core.Path.{_≡_, refl, sym, ap, subst, _∙_}
 use mathlib.Core.List.{List, [], _∷_, _++_, append-assoc, append-nil}
 use lib.ListN.{length, take, drop, set, getD, replicate, length-append, length-drop, length-set, length-replicate, take-append-drop}
-use lib.Seq.{take-all, take-suc, set-split, take-at, drop-at, drop-drop, length-take-le}
+use lib.Seq.{set-set, take-all, take-suc, set-split, take-at, drop-at, drop-drop, length-take-le}
 use lib.Dec.{eqb}
 use borrow.Author.Tests.{ne-eqb}
 use Rattle.cdf.specs.Form.{form}
@@ -78,6 +78,44 @@ put-zero s t at i room same g =
 
 pub put-zeros-all : (s t : List ℕ) (at i n : ℕ) → n ≤ i → i ≤ n → Put s at (replicate i 0) t (at + i) → Put s at (replicate n 0) t (at + i)
 put-zeros-all s t at i n l h g = put-is g (ap (λ (k : ℕ). replicate k 0) (let e : i ≡ n = omega arith in e))
+
+-- at most three zeros: the first, one in the middle, the last
+module _ (s : List ℕ) (at : ℕ) where
+  zero-one : at + 1 ≤ length s → Put s at (replicate 1 0) (set s at 0) (at + 1)
+  zero-one h = put-byte s at 0 (omega arith)
+
+  zero-two : at + 2 ≤ length s → Put s at (replicate 2 0) (set (set s at 0) (at + 1) 0) (at + 2)
+  zero-two h = put-zero s (set s at 0) at 1 (omega arith) (length-set s at 0) (zero-one (omega arith))
+
+  zero-three : at + 3 ≤ length s → Put s at (replicate 3 0) (set (set (set s at 0) (at + 1) 0) (at + 2) 0) (at + 3)
+  zero-three h = put-zero s (set (set s at 0) (at + 1) 0) at 2 (omega arith) (length-set (set s at 0) (at + 1) 0 ∙ length-set s at 0) (zero-two (omega arith))
+
+  pub pad-none : (n : ℕ) → n ≡ 0 → Put s at (replicate n 0) s at
+  pad-none n e = subst (λ (k : ℕ). Put s at (replicate k 0) s at) (sym e) (subst (λ (k : ℕ). Put s at [] s k) (add-zero at) (put-nothing s at))
+
+  -- at the places i and j
+  pads : (n i j : ℕ) → i ≡ n / 2 → j + 1 ≡ n → n ≤ 3 → at + n ≤ length s → Put s at (replicate n 0) (set (set (set s at 0) (at + i) 0) (at + j) 0) (at + n)
+  pads zero i j e f l h = absurd (omega arith)
+  pads (suc zero) i j e f l h =
+      let a : at + i ≡ at = omega arith in
+      let b : at + j ≡ at = omega arith in
+      let q : set (set (set s at 0) at 0) at 0 ≡ set s at 0 = set-set (set s at 0) at 0 0 ∙ set-set s at 0 0 in
+      rw (a, b, q) (zero-one h)
+  pads (suc (suc zero)) i j e f l h =
+      let a : i ≡ 1 = omega arith in
+      let b : j ≡ 1 = omega arith in
+      rw (a, b, set-set (set s at 0) (at + 1) 0 0) (zero-two h)
+  pads (suc (suc (suc zero))) i j e f l h =
+      let a : i ≡ 1 = omega arith in
+      let b : j ≡ 2 = omega arith in
+      rw (a, b) (zero-three h)
+  pads (suc (suc (suc (suc n)))) i j e f l h = absurd (omega arith)
+
+  pub pad-some : (n : ℕ) → (n ≡ 0 → ⊥) → n ≤ 3 → at + n ≤ length s → Put s at (replicate n 0) (set (set (set s at 0) (at + n / 2) 0) (at + n - 1) 0) (at + n)
+  pad-some n z l h =
+      let k : n - 1 + 1 ≡ n = omega (arith, z) in
+      let e : at + (n - 1) ≡ at + n - 1 = omega arith in
+      subst (λ (m : ℕ). Put s at (replicate n 0) (set (set (set s at 0) (at + n / 2) 0) m 0) (at + n)) e (pads n (n / 2) (n - 1) refl k l h)
 
 -- four bytes
 pub put-four : (s : List ℕ) (at a b c d : ℕ) → at + 4 ≤ length s → Put s at (a ∷ b ∷ c ∷ d ∷ []) (set (set (set (set s at a) (at + 1) b) (at + 2) c) (at + 3) d) (at + 4)

@@ -5,7 +5,7 @@ use Rattle.writer.proofs.put.put_padded.Statement.{statement}
 use Rattle.writer.proofs.put.put_padded.Tie as tie
 use Rattle.cdf.proofs.padding.compute_padding_size.Reads as compute-padding-size-reads
 use Rattle.writer.proofs.put.put_bytes.Reads as put-bytes-reads
-use Rattle.writer.proofs.put.put_zeros.Reads as put-zeros-reads
+use Rattle.writer.proofs.put.put_padding.Reads as put-padding-reads
 
 -- src/put.rt:54:9
 put-bytes-requires : tie.Need-put-bytes-requires
@@ -16,11 +16,11 @@ compute-padding-size-requires : tie.Need-compute-padding-size-requires
 compute-padding-size-requires c κs = search needs
 
 -- src/put.rt:56:5
-put-zeros-requires : tie.Need-put-zeros-requires
-put-zeros-requires c κs =
+put-padding-requires : tie.Need-put-padding-requires
+put-padding-requires c κs =
     let l = length-paddedOut (c .before .before .before .before .before .before .before .before .args .more .now) in
     let p = c .before .before .before .before .put-bytes .ensures .place in
-    omega arith
+    (omega arith, omega arith)
 
 -- src/put.rt:50:1
 same-length : tie.Need-same-length
@@ -28,7 +28,7 @@ same-length c = search needs
 
 -- src/put.rt:50:1
 returns : tie.Need-returns
-returns c = put-padded _ _ (c .before .before .before .before .compute-padding-size .ensures) (omega arith) (c .before .before .before .before .before .before .before .put-bytes .ensures) (c .before .before .put-zeros .ensures)
+returns c = put-padded _ _ (c .before .before .before .before .compute-padding-size .ensures) (omega arith) (c .before .before .before .before .before .before .before .put-bytes .ensures) (c .before .before .put-padding .ensures)
 
 pub put-padded-spec : {M : Type 1} → statement M
 put-padded-spec =
@@ -36,6 +36,6 @@ put-padded-spec =
     (tie.spec
     put-bytes-requires
     compute-padding-size-requires
-    put-zeros-requires
+    put-padding-requires
     same-length
     returns)
