@@ -38,7 +38,7 @@ use Rattle.sizes.specs.Count.{hasUnlimited, hasRecords, firstBegin, recordCount
 use Rattle.model.specs.Model.{namesHold, oneUnlimited, idHolds, idsHold, modelHolds}
 use Rattle.header.specs.Header.{answer, judged, readHeader}
 use Rattle.header.specs.declared.reader.Header.{Header}
-use Rattle.demands.proofs.Accepted.{Came, accepted-came, tree-size}
+use Rattle.header.proofs.Laws.Accepted.{Came, accepted-came, tree-size, same-model, same-sizes, same-count, same-ends}
 use Rattle.demands.specs.Derived.{AreBytes, Allowed, AcceptedIsDerived, DerivedIsRead, OneMeaning, NoPrefix, EncodeIsDerived, DerivedIsInRange, BytesBack}
 
 -- the begin of a row is that of its variable
@@ -82,23 +82,6 @@ module _ (s : List ℕ) (size : ℕ) (a : Admitted) where
   pub read-said : {h : Tree} {e : ℕ} (n : ℕ) → got h e ≡ header a s size → said s (withCount (laid h) n) .contents ≡ contents s h
   unfolding held
   read-said {h} n g = ap (contents s) (laid-held h (read-within a s size (into-got laid refl g)))
-
--- the rules do not look at the count that the tables get
-pub same-model : (s : List ℕ) (t : Tables) (n : ℕ) → modelHolds s (withCount t n) ≡ modelHolds s t
-unfolding modelHolds namesHold oneUnlimited idsHold idHolds
-same-model s t n = refl
-
-pub same-sizes : (t : Tables) (n : ℕ) → sizesHold (withCount t n) ≡ sizesHold t
-unfolding sizesHold recordSize
-same-sizes t n = refl
-
-pub same-count : (t : Tables) (n : ℕ) → recordCount (withCount t n) ≡ recordCount t
-unfolding recordCount hasUnlimited hasRecords firstBegin recordSize
-same-count t n = refl
-
-pub same-ends : (t : Tables) (n k : ℕ) → endsHold (withCount t n) k ≡ endsHold t k
-unfolding endsHold recordSize
-same-ends t n k = refl
 
 -- a count has no place
 count-placeless : {n p : ℕ} (t : Tables) → got n p ≡ recordCount t → p ≡ 0

@@ -7,7 +7,7 @@ use Rattle.grammar.specs.Meaning.{meaning, held, said}
 use Rattle.grammar.proofs.Laws.Meaning.{laid-held}
 use Rattle.grammar.proofs.Laws.Within.{read-within}
 use Rattle.header.specs.declared.reader.Header.{Header}
-use Rattle.demands.proofs.Accepted.{accepted-came}
+use Rattle.header.proofs.Laws.Accepted.{accepted-came}
 use Rattle.demands.specs.Laid.{NothingLost}
 
 pub nothing-lost : NothingLost

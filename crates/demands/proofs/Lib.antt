@@ -1,6 +1,4 @@
--- The proofs of the statements in specs/, under the same file names; `Refusals` and `Accepted` say what an answer of the reader comes from.
-pub mod Refusals
-pub mod Accepted
+-- The proofs of the statements in specs/, under the same file names.
 pub mod Determined
 pub mod Examples
 pub mod Versions

@@ -26,7 +26,7 @@ use Rattle.header.specs.declared.reader.Header.{Header}
 use Rattle.model.proofs.Laws.Model.{model-has-ids}
 use Rattle.sizes.proofs.Laws.Records.{begin-in, id-below}
 use Rattle.sizes.proofs.Laws.Count.{records-positive}
-use Rattle.demands.proofs.Accepted.{Came, accepted-came, tree-size}
+use Rattle.header.proofs.Laws.Accepted.{Came, accepted-came, tree-size}
 use Rattle.demands.specs.RecordCount.{AcceptedTables, CountOfBytes, OpenCount, SmallestBegin}
 
 pub count-of-bytes : CountOfBytes

@@ -26,7 +26,7 @@ use Rattle.header.specs.Header.{refusal, answer, judged, readHeader}
 use Rattle.sizes.specs.Records.{maxPosition}
 use Rattle.header.proofs.Laws.Header.{read-stops}
 use Rattle.grammar.specs.declared.tables.Tables.{Tables}
-use Rattle.demands.proofs.Refusals.{Refuses, gives, stops, bind-refuses, test-refuses, into-refuses, short, openCount-refuses, lists-refuse, judged-refuses}
+use Rattle.header.proofs.Laws.Refusals.{Refuses, gives, stops, bind-refuses, test-refuses, into-refuses, short, openCount-refuses, lists-refuse, judged-refuses}
 use Rattle.demands.specs.Versions.{only, Another, OneVersion}
 
 -- a number other than 4

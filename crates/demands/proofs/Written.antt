@@ -39,75 +39,23 @@ use Rattle.rules.proofs.Laws.Complete.{header-complete}
 use Rattle.rules.proofs.Laws.Encoded.{encode-derived}
 use Rattle.rules.proofs.Laws.Range.{header-range}
 use Rattle.rules.proofs.Laws.Cleared.{header-back}
+use Rattle.order.proofs.Laws.Read.{length-padded, no-item, dim-row, attr-row, var-row, laid-inside}
 use Rattle.order.specs.Writable.{isInside, dimInside, attrInside, varInside, rowsInside, toWrite, countHolds, sizeHolds, writable}
 use Rattle.model.specs.Model.{namesHold, oneUnlimited, idsHold, modelHolds}
 use Rattle.sizes.specs.Records.{sizesHold, endsHold, maxPosition}
 use Rattle.sizes.specs.Count.{recordCount}
 use Rattle.header.specs.Header.{answer, judged, readHeader}
 use Rattle.header.specs.declared.reader.Header.{Header}
-use Rattle.demands.proofs.Accepted.{Came, accepted-came, tree-size}
-use Rattle.demands.proofs.Refusals.{Refuses, gives, stops, count-refuses}
+use Rattle.header.proofs.Laws.Accepted.{Came, accepted-came, tree-size}
+use Rattle.header.proofs.Laws.Refusals.{Refuses, gives, stops, count-refuses}
 use Rattle.demands.proofs.Alike.{Alike, model-same, sizes-same, count-same, ends-same}
 use Rattle.demands.proofs.Placed.{PlacedVar, Placed, said-alike}
-use Rattle.demands.proofs.Derived.{accepted-is-derived, read-said, same-model, same-sizes, same-count, same-ends}
+use Rattle.demands.proofs.Derived.{accepted-is-derived}
 use Rattle.demands.specs.Derived.{AreBytes, Allowed, AcceptedIsDerived}
 use Rattle.demands.specs.Written.{ReadIsWritable, ReadIsGivenBack, HasRows, WrittenIsRead}
 
--- lists of items that are so
-each-at : {A : Type 0} (P : A → Type 0) (xs : List A) (d : A) → EachIs P xs → (i : ℕ) → i < length xs → P (getD xs i d)
-each-at P [] d k i h = absurd (omega arith)
-each-at P (x ∷ xs) d k zero h = k .0
-each-at P (x ∷ xs) d k (suc i) h = each-at P xs d (k .1) i (omega arith)
-
-each-both : {A : Type 0} (P : A → Type 0) (xs ys : List A) → EachIs P xs → EachIs P ys → EachIs P (xs ++ ys)
-each-both P [] ys k l = l
-each-both P (x ∷ xs) ys k l = (k .0, each-both P xs ys (k .1) l)
-
-attrs-held : (s : List ℕ) (vs : List VarItem) → EachIs (VarHeld s) vs → EachIs (AttrHeld s) (attrsOf vs)
-unfolding attrsOf
-attrs-held s [] k = tt
-attrs-held s (v ∷ vs) k = each-both (AttrHeld s) (v .attrs) (attrsOf vs) (k .0 .attrs) (attrs-held s vs (k .1))
-
-length-padded : {A : Type 0} (n : ℕ) (z : A) (xs : List A) → length (padded n z xs) ≡ n
-unfolding padded
-length-padded zero z xs = refl
-length-padded (suc n) z [] = ap suc (length-padded n z [])
-length-padded (suc n) z (x ∷ xs) = ap suc (length-padded n z xs)
-
--- the row of a variable: where its attributes end, and the rest as in the tree
-no-item : VarItem
-no-item = record { name = 0; chars = 0; ids = []; attrs = []; code = 0; vsize = 0; begin = 0 }
-
-row-at : (first : ℕ) (vs : List VarItem) (i : ℕ) → i < length vs → (k : ℕ) × (getD (varRows first vs) i noVar ≡ varRow k (getD vs i no-item)) × (k + length (getD vs i no-item .attrs) ≤ first + length (attrsOf vs))
-unfolding varRows attrsOf no-item
-row-at first [] i h = absurd (omega arith)
-row-at first (v ∷ vs) zero h = (first, refl, let l = length-append (v .attrs) (attrsOf vs) in omega arith)
-row-at first (v ∷ vs) (suc i) h =
-    let r = row-at (first + length (v .attrs)) vs i (omega arith) in
-    let l = length-append (v .attrs) (attrsOf vs) in
-    (r .0, r .1, let q = r .2 in omega arith)
-
 -- the rows of a tree that lies inside the bytes
 module _ (s : List ℕ) (h : Tree) (k : Held s h) (w : Within (laid h)) where
-  dim-row : (i : ℕ) → i < length (h .dims) → DimHeld s (dimAt (laid h) i)
-  unfolding laid
-  dim-row i l = subst (DimHeld s) (sym (getD-padded 32 noDim noDim (h .dims) i l (w .dims))) (each-at (DimHeld s) (h .dims) noDim (k .dims) i l)
-
-  attr-row : (i : ℕ) → i < length (h .globals ++ attrsOf (h .vars)) → AttrHeld s (attrAt (laid h) i)
-  unfolding laid
-  attr-row i l =
-      subst (AttrHeld s) (sym (getD-padded 128 noAttr noAttr (h .globals ++ attrsOf (h .vars)) i l (w .attrs)))
-      (each-at (AttrHeld s) (h .globals ++ attrsOf (h .vars)) noAttr (each-both (AttrHeld s) (h .globals) (attrsOf (h .vars)) (k .globals) (attrs-held s (h .vars) (k .vars))) i l)
-
-  var-row : (i : ℕ) → i < length (h .vars) → (n : ℕ) × (varAt (laid h) i ≡ varRow n (getD (h .vars) i no-item)) × (n + length (getD (h .vars) i no-item .attrs) ≤ length (h .globals ++ attrsOf (h .vars))) × VarHeld s (getD (h .vars) i no-item)
-  unfolding laid
-  var-row i l =
-      let r = row-at (length (h .globals)) (h .vars) i l in
-      let n = length-rows (length (h .globals)) (h .vars) in
-      let m = length-append (h .globals) (attrsOf (h .vars)) in
-      let few = w .vars in
-      (r .0, getD-padded 64 zeroVar noVar (varRows (length (h .globals)) (h .vars)) i (omega arith) (omega arith) ∙ r .1, (let q = r .2 in omega arith), each-at (VarHeld s) (h .vars) no-item (k .vars) i l)
-
   laid-placed : Placed s (laid h)
   unfolding laid
   laid-placed =
@@ -116,12 +64,12 @@ module _ (s : List ℕ) (h : Tree) (k : Held s h) (w : Within (laid h)) where
       let few = w .attrs in
       record {
         ndims = rw (length-padded 32 noDim (h .dims)) (w .dims);
-        dims = λ i l. dim-row i l .inside;
+        dims = λ i l. dim-row s h k w i l .inside;
         nglobals = omega arith;
-        globals = λ i l. attr-row i (omega arith) .name .inside;
+        globals = λ i l. attr-row s h k w i (omega arith) .name .inside;
         nvars = rw (length-padded 64 zeroVar (varRows (length (h .globals)) (h .vars))) (w .vars);
         vars = λ i l.
-            let r = var-row i l in
+            let r = var-row s h k w i l in
             let q = r .2 in
             let v = getD (h .vars) i no-item in
             let ids = length-padded 8 0 (v .ids) in
@@ -131,27 +79,9 @@ module _ (s : List ℕ) (h : Tree) (k : Held s h) (w : Within (laid h)) where
               name = r .3 .name .inside;
               rank = omega arith;
               span = omega arith;
-              rows = λ j m. attr-row (r .0 + j) (omega arith) .name .inside;
+              rows = λ j m. attr-row s h k w (r .0 + j) (omega arith) .name .inside;
             });
       }
-
-  laid-inside : rowsInside s (laid h) ≡ true
-  unfolding rowsInside laid
-  laid-inside =
-      let few = w .attrs in
-      let all = length-append (h .globals) (attrsOf (h .vars)) in
-      rw (
-        le-leb (length (h .dims)) 32 (w .dims),
-        le-leb (length (h .vars)) 64 (w .vars),
-        le-leb (length (h .globals ++ attrsOf (h .vars))) 128 (w .attrs),
-        le-leb (length (h .globals)) (length (h .globals ++ attrsOf (h .vars))) (omega arith),
-        all-hold (dimInside s (laid h)) (length (h .dims)) (λ i l. le-leb _ _ (dim-row i l .inside)),
-        all-hold (attrInside s (laid h)) (length (h .globals ++ attrsOf (h .vars))) (λ i l. let a = attr-row i l in rw (le-leb _ (length s) (a .name .inside), le-leb _ (length s) (a .inside))),
-        all-hold (varInside s (laid h)) (length (h .vars)) (λ i l. var-inside i l),
-      )
-    where
-      var-inside : (i : ℕ) → i < length (h .vars) → varInside s (laid h) i ≡ true
-      var-inside i l = let r = var-row i l in rw (r .1, le-leb _ (length s) (r .3 .name .inside), le-leb _ 8 (r .3 .rank), le-leb _ _ (r .2))
 
 -- clearing keeps the number of bytes
 cleared-length : (ps s : List ℕ) → length (cleared ps s) ≡ length s

@@ -9,3 +9,4 @@ pub mod Lists
 pub mod Lengths
 pub mod Tested
 pub mod Said
+pub mod Read

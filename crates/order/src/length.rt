@@ -24,7 +24,7 @@ pub(crate) fn width(code: u64) -> u64
 }
 
 // The bytes of a name of `chars` bytes.
-pub(crate) fn name_len(chars: u64) -> u64
+pub fn name_len(chars: u64) -> u64
     requires { ⌜ chars < 4294967296 ⌝ }
     ensures { λ r. ⌜ r ≡ nameLength chars ⌝ }
 {
@@ -32,7 +32,7 @@ pub(crate) fn name_len(chars: u64) -> u64
 }
 
 // The bytes of an attribute.
-pub(crate) fn attr_len(a: Attr) -> u64
+pub fn attr_len(a: Attr) -> u64
     ensures { λ r. ⌜ (r ≡ attrLength a) × (r ≤ 68719476736) ⌝ }
 {
     let bytes = a.count as u64 * width(a.code as u64);
@@ -47,7 +47,7 @@ fn begin_len(version: u8) -> u64
 }
 
 // The bytes of a variable without its attributes.
-pub(crate) fn var_len(version: u8, v: Var) -> u64
+pub fn var_len(version: u8, v: Var) -> u64
     ensures { λ r. ⌜ (r ≡ varAlone version v) × (r ≤ 8589934592) ⌝ }
 {
     name_len(v.chars as u64) + 4 + 4 * v.rank as u64 + 8 + 8 + begin_len(version)

@@ -64,7 +64,7 @@ pub(crate) fn version_holds(version: u8) -> bool
 }
 
 // The first number that is no begin in the version.
-fn begin_end(version: u8) -> u64
+pub fn begin_end(version: u8) -> u64
     ensures { λ r. ⌜ r ≡ half (form version .beginBytes) ⌝ }
 {
     if version == 1 { WORD_END } else { BEGIN_END }

@@ -15,12 +15,12 @@ use Rattle.grammar.specs.Tree.{Tree}
 use Rattle.grammar.specs.Tables.{laid, withCount}
 use Rattle.grammar.specs.Grammar.{header}
 use Rattle.grammar.specs.declared.tables.Tables.{Tables}
-use Rattle.model.specs.Model.{modelHolds}
-use Rattle.sizes.specs.Records.{sizesHold, endsHold, maxPosition}
-use Rattle.sizes.specs.Count.{recordCount}
+use Rattle.model.specs.Model.{namesHold, oneUnlimited, idHolds, idsHold, modelHolds}
+use Rattle.sizes.specs.Records.{recordSize, sizesHold, endsHold, maxPosition}
+use Rattle.sizes.specs.Count.{hasUnlimited, hasRecords, firstBegin, recordCount}
 use Rattle.header.specs.Header.{refusal, answer, judged, readHeader}
 use Rattle.header.specs.declared.reader.Header.{Header}
-use Rattle.demands.proofs.Refusals.{Refuses, gives, stops, bind-refuses, test-refuses, into-refuses, header-refuses, judged-refuses}
+use Rattle.header.proofs.Laws.Refusals.{Refuses, gives, stops, bind-refuses, test-refuses, into-refuses, header-refuses, judged-refuses}
 
 -- the tree that was read, where it ends, its record count, and every rule that it has met
 pub record Came (s : List ℕ) (size : ℕ) (a : Admitted) (h : Header) : Type 0 where
@@ -94,3 +94,20 @@ tree-size s size a {x} f =
     bind-came _ _ f (x .size ≡ size) (λ _ _ _ f.
     bind-came _ _ f (x .size ≡ size) (λ _ _ _ f.
     bind-came _ _ f (x .size ≡ size) (λ _ _ _ f. ap (λ (y : Tree). y .size) (got-same f)))))))
+
+-- the rules do not look at the count that the tables get
+pub same-model : (s : List ℕ) (t : Tables) (n : ℕ) → modelHolds s (withCount t n) ≡ modelHolds s t
+unfolding modelHolds namesHold oneUnlimited idsHold idHolds
+same-model s t n = refl
+
+pub same-sizes : (t : Tables) (n : ℕ) → sizesHold (withCount t n) ≡ sizesHold t
+unfolding sizesHold recordSize
+same-sizes t n = refl
+
+pub same-count : (t : Tables) (n : ℕ) → recordCount (withCount t n) ≡ recordCount t
+unfolding recordCount hasUnlimited hasRecords firstBegin recordSize
+same-count t n = refl
+
+pub same-ends : (t : Tables) (n k : ℕ) → endsHold (withCount t n) k ≡ endsHold t k
+unfolding endsHold recordSize
+same-ends t n k = refl

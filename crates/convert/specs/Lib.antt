@@ -1,0 +1,3 @@
+-- What widening and narrowing answer.
+pub mod Convert
+pub mod Inner
