@@ -8,7 +8,7 @@ use Rattle.reads.specs.declared.element.Value.the-variants.{Byte, Char, Short, 
 use Rattle.lookup.specs.declared.names.Found.{Found}
 use Rattle.lookup.specs.declared.names.Found.the-variants.{At, Refused as Missing}
 use Prim.Native.Nat.{ℕ}
-use Rattle.demands.specs.Determined.{HeaderDetermined, OutputsDetermined, ElementsDetermined, LookupsDetermined, NumbersDetermined, WriterDetermined}
+use Rattle.demands.specs.Determined.{HeaderDetermined, OutputsDetermined, ElementsDetermined, LookupsDetermined, NumbersDetermined, WriterDetermined, ConversionDetermined}
 
 pub header-determined : HeaderDetermined
 unfolding HeaderDetermined
@@ -60,3 +60,7 @@ numbers-determined n k k′ e f = e ∙ sym f
 pub writer-determined : WriterDetermined
 unfolding WriterDetermined
 writer-determined out y r r′ new new′ p q = (λ i. record { number = (p .0 .0 ∙ sym (q .0 .0)) i; length = (p .1 ∙ sym (q .1)) i }, p .0 .1 ∙ sym (q .0 .1))
+
+pub conversion-determined : ConversionDetermined
+unfolding ConversionDetermined
+conversion-determined out y r r′ new new′ p q = (p .0 ∙ sym (q .0), p .1 ∙ sym (q .1))

@@ -1,5 +1,5 @@
 -- Demand 1 (01, What each answer must decide: "That two conforming results coincide is proved"). Each line takes two answers that meet a contract,
--- in the contract's own words: every entry's contract is one of these six forms (tests/reach looks).
+-- in the contract's own words: every entry's contract is one of these seven forms (tests/reach looks).
 use Prim.Native.Nat.{ℕ}
 use mathlib.Core.Path.{_≡_}
 use mathlib.Core.List.{List}
@@ -15,6 +15,8 @@ use Rattle.reads.specs.declared.element.Value.{Value}
 use Rattle.lookup.specs.declared.names.Found.{Found}
 use Rattle.writer.specs.Writes.{Writes}
 use Rattle.writer.specs.declared.header.Written.{Written}
+use Rattle.convert.specs.Convert.{New, Converts}
+use Rattle.convert.specs.declared.convert.Converted.{Converted}
 
 -- the header reader: number, place, end and tables
 unfoldable pub HeaderDetermined : Type 0
@@ -42,3 +44,7 @@ NumbersDetermined = (n k k′ : ℕ) → k ≡ n → k′ ≡ n → k ≡ k′
 -- the writer: number, length and output
 unfoldable pub WriterDetermined : Type 0
 WriterDetermined = (out : List ℕ) (y : Step (List ℕ)) (r r′ : Written) (new new′ : List ℕ) → Writes out y r new → Writes out y r′ new′ → (r ≡ r′) × (new ≡ new′)
+
+-- widening and narrowing: number, place, length, size and output
+unfoldable pub ConversionDetermined : Type 0
+ConversionDetermined = (out : List ℕ) (y : Step New) (r r′ : Converted) (new new′ : List ℕ) → Converts out y r new → Converts out y r′ new′ → (r ≡ r′) × (new ≡ new′)
