@@ -1,6 +1,6 @@
-"""Document 01 as a program: what the header reader, the reads and the header writer must answer, in exact arithmetic."""
+"""Document 01 as a program: what the header reader, the reads, the header writer, widening and narrowing must answer, in exact arithmetic."""
 
-from dataclasses import dataclass, field
+from dataclasses import dataclass, field, replace
 
 DIMS, VARS, ATTRS, IDS, NAME = 32, 64, 128, 8, 256  # capacities
 OPEN = 0xFFFFFFFF
@@ -501,3 +501,33 @@ def write_header(t, out):
     if len(head) > len(out):
         return 22, 0, out
     return 0, len(head), head + out[len(head) :]
+
+
+# ---- widening and narrowing: version 2 and version 1 ----
+
+
+def in_version(t, version, move=0):
+    """The tables in another version, begins and size moved."""
+    vars = [replace(var, begin=var.begin + move) for var in t.vars]
+    return replace(t, version=version, size=t.size + move, vars=vars)
+
+
+def convert(prefix, size, version, out):
+    """number, place, the new header's length, the new size, and the output as it then stands"""
+    try:
+        t, end = parse(prefix, size)
+        new = in_version(t, version, len(header_bytes(in_version(t, version))) - end)
+        if any(var.begin < end for var in t.vars):
+            raise Refused(24)
+        if version == 1 and any(var.begin >= 2**31 for var in new.vars):
+            raise Refused(25)
+        if new.size > FAR:
+            raise Refused(21)
+        if not rule15(new):
+            raise Refused(15)
+        head = header_bytes(new)
+        if len(head) > len(out):
+            raise Refused(22)
+        return 0, 0, len(head), new.size, head + out[len(head) :]
+    except Refused as no:
+        return no.number, no.place, 0, 0, out

@@ -201,7 +201,7 @@ class Replay:
     """The lines so far, and their answers."""
 
     def __init__(self):
-        self.recorded, self.expected, self.refusals, self.answers, self.written = [], [], {}, {}, {}
+        self.recorded, self.expected, self.refusals, self.answers, self.written, self.converted = [], [], {}, {}, {}, {}
         self.files = self.headers = self.values = self.outputs = self.lookups = 0
 
     def line(self, kind, *rest):
@@ -305,6 +305,15 @@ class Replay:
             number, n, out = model.write_header(rows.tables_of(self.numbers, self.first, text), out)
         self.expected.append(" ".join(map(str, [n, number, *out])))
         self.written[number] = self.written.get(number, 0) + 1
+        return n
+
+    def converts(self, version, room, length=None, size=None):
+        """The file's first bytes, a file of that size, in the version."""
+        length, size = (len(self.data) if n is None else n for n in (length, size))
+        self.line(str(version), room, length, size)
+        number, place, n, new, out = model.convert(self.data[:length], size, version, KEPT * min(room, ROOM))
+        self.expected.append(" ".join(map(str, [place, n, new, number, *out])))
+        self.converted[number] = self.converted.get(number, 0) + 1
         return n
 
 
@@ -518,6 +527,34 @@ def headers_written(play):
         play.writes(400)
 
 
+def files_converted(play):
+    """Files of every shape in both versions, with room to spare, just enough and a byte short; begins, ends and sizes at their limits; files that are refused."""
+    tagged = bytearray(EMPTY)
+    tagged[11], tagged[19], tagged[27] = 0x0A, 0x0C, 0x0B
+    late = [made([A, T, B], [(b"r", [1, 2], 4), (b"f", [0], 3), (b"q", [1], 6)], 2, version=v, late=12)[0] for v in (1, 2)]
+    whole = [small(1, 4), small(2, OPEN), EMPTY, bytes(tagged), *late, *refused_files()]
+    for data in whole:
+        play.file(data)
+        for version in (1, 2):
+            n = play.converts(version, len(data) + 20)
+            for room in {n, max(n - 1, 0), 0}:
+                play.converts(version, room)
+            for length in {n // 2, len(data) - 1, len(data)}:
+                play.converts(version, 8, length, len(data) + 4)
+            for size in (len(data) - 1, len(data), *LIMITS, 2**62 - 4, 2**62 - 3, 2**62 - 8):
+                play.converts(version, 0, size=size)
+    # a begin at the header's end and below; where a moved begin, a moved end and a moved size pass their limits
+    for version, end in ((1, 80), (2, 84)):
+        begins = [end - 4, end - 1, end, 2**31 - 1 - 4, 2**31 - 4, 2**31 - 1]
+        begins += [2**31 + 3, 2**31 + 4, 2**32, 2**62 - 8, 2**62 - 4, 2**62 - 3, 2**62] if version == 2 else []
+        for begin in begins:
+            for word, dims, ids in ((0, [T], [0]), (0, [(b"n", 1)], [0]), (OPEN, [T], [0])):
+                play.file(encode.file(dims, [(b"x", ids, 4, begin)], word=word, version=version))
+                for size in (len(play.data), begin + 8, 2**62 - 4, 2**62):
+                    for target in (1, 2):
+                        play.converts(target, 84, size=size)
+
+
 def replay():
     play = Replay()
     all_headers(play)
@@ -543,6 +580,7 @@ def replay():
         play.file(data)
         out_of_order(play)
     headers_written(play)
+    files_converted(play)
     return play
 
 
@@ -568,6 +606,8 @@ def main():
     print(f"{play.values} values by elements, {play.outputs} reads into outputs, {play.lookups} lookups; refusals: {given}")
     written = ", ".join(f"{number} {times} times" for number, times in sorted(play.written.items()))
     print(f"headers written: {written}")
+    converted = ", ".join(f"{number} {times} times" for number, times in sorted(play.converted.items()))
+    print(f"files widened and narrowed: {converted}")
     if differ:
         sys.exit(f"replay: {' and '.join(differ)} differ from what the model answers")
 

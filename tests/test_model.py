@@ -214,5 +214,34 @@ class Writer(unittest.TestCase):
         self.limit(fixed, "size", 2**62, 2**62 + 1)
 
 
+class Conversions(unittest.TestCase):
+    def answer(self, data, size, version, out=OUTPUT):
+        return model.convert(data, size, version, out)
+
+    def test_marked(self):
+        wide = x(begin=84, version=2)
+        self.assertEqual(self.answer(x(), 92, 2), (0, 0, 84, 96, wide + OUTPUT[84:]))
+        self.assertEqual(self.answer(wide, 96, 1), (0, 0, 80, 92, x() + OUTPUT[80:]))
+        near, far = (x(begin, version=2, count=0) for begin in (2147483651, 2147483652))
+        self.assertEqual(self.answer(near, 84, 1), (0, 0, 80, 80, x(2147483647, count=0) + OUTPUT[80:]))
+        self.assertEqual(self.answer(far, 84, 1), (25, 0, 0, 0, OUTPUT))
+
+    def test_same_version(self):
+        tagged = EMPTY[:11] + b"\x0a" + EMPTY[12:]
+        self.assertEqual(self.answer(tagged, 40, 1), (0, 0, 32, 40, EMPTY + OUTPUT[32:]))
+        self.assertEqual(self.answer(x(), 92, 1), (0, 0, 80, 92, x() + OUTPUT[80:]))
+
+    def test_refusals_in_order(self):
+        self.assertEqual(self.answer(x()[:22] + b"\x01" + x()[23:], 80, 2)[:2], (7, 21))
+        for version in (1, 2):
+            self.assertEqual(self.answer(x(begin=76), 76, version)[0], 21)
+            self.assertEqual(self.answer(x(begin=76), 80, version)[0], 24)
+        self.assertEqual(self.answer(x(), 2**62 - 4, 2)[0], 0)
+        self.assertEqual(self.answer(x(count=0), 2**62 - 3, 2)[0], 21)
+        end = file([], [(b"f", [], 4, 2**62 - 8)], version=2)
+        self.assertEqual(self.answer(end, 500, 2)[0], 0)
+        self.assertEqual(self.answer(x(), 92, 2, OUTPUT[:83]), (22, 0, 0, 0, OUTPUT[:83]))
+
+
 if __name__ == "__main__":
     unittest.main()

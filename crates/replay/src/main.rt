@@ -1,4 +1,4 @@
-// Runs the header reader, the reads, the lookups and the header writer on recorded files. A line of standard input is a letter, a
+// Runs the header reader, the reads, the lookups, the header writer, widening and narrowing on recorded files. A line of standard input is a letter, a
 // space and what the letter takes: the bytes of a file in hexadecimal, or numbers in decimal.
 //     f HEX                      a file: all that the header reader answers, where both versions are admitted
 //     h SET LENGTH SIZE          the same for the file's first bytes, a file of that size, and the versions in the set: 1, 2 or both (3)
@@ -11,11 +11,13 @@
 //     m VAR                      a variable's name: the answer's number, then its bytes
 //     q FROM TO                  the variable whose name is these bytes of the file
 //     x ROOM LENGTH              the tables' header, written into an output of so many bytes; the file's first bytes are the text
+//     2 ROOM LENGTH SIZE         the file's first bytes, a file of that size, widened into an output of so many bytes; 1: narrowed
 // The other letters change a number of the tables (tables.rt). tests/replay.py writes the lines and
 // what is expected.
 ghost use Prim.Native.Nat.{_≤_};
 ghost use lib.ListN.{length};
 ghost use Rattle.hexlines.specs.Inner.Cut.{kept};
+use crate::converted::show_converted;
 use crate::element::show_element;
 use crate::element::show_typed;
 use crate::names::show_found;
@@ -36,6 +38,7 @@ use hexlines::cut::cut_line;
 use hexlines::line::Line;
 use hexlines::line::line_answer;
 
+mod converted;
 mod element;
 mod names;
 mod output;
@@ -138,6 +141,10 @@ fn answer(kind: u8, a: [u64; 4], file: &[u8], held: Held) {
             let length = least(a[1] as usize, size);
             show_written(tables, &file[0..length], a[0] as usize);
         }
+        b'1' | b'2' => {
+            let length = least(a[1] as usize, size);
+            show_converted(kind == b'2', &file[0..length], a[2], a[0] as usize);
+        }
         b'm' | b'q' => look_up(kind, a, tables, &file[0..size]),
         _ => {
             let to = least(held.to, file.len());
@@ -151,7 +158,12 @@ fn answer(kind: u8, a: [u64; 4], file: &[u8], held: Held) {
 fn asked(kind: u8, a: [u64; 4], file: &[u8], held: Held) -> Held {
     let mut next = held;
     match kind {
-        b'h' | b'x' | b'm' | b'q' | b'e' | b't' | b'r' | b'a' => answer(kind, a, file, held),
+        b'h' | b'x' | b'1' | b'2' | b'm' | b'q' | b'e' | b't' | b'r' | b'a' => answer(
+            kind,
+            a,
+            file,
+            held,
+        ),
         b'w' => {
             next.from = a[0] as usize;
             next.to = least(a[1] as usize, held.size);
