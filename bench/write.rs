@@ -37,7 +37,6 @@ fn main() {
         let (alone, both) = against(RUNS, turns(|| assert_eq!(place(), 0)), turns(|| assert_eq!(rewrite(), 0)));
         let (reader, _) = against(RUNS, turns({ let mut read = read; move || assert_eq!(read(), 0) }), || ());
         assert!(out[..n] == bytes && out[n..].iter().all(|b| *b == 0x99), "{name}: the header comes back");
-        eprintln!("{name}: place {:.2} rewrite {:.2}", alone / TURNS as f64, both / TURNS as f64);
         let (reader, writer) = (reader / TURNS as f64, (both - alone) / TURNS as f64);
         let most = if vars == 1 { SMALL } else { reader };
         let verdict = if writer <= most { "" } else { "  over" };
