@@ -20,6 +20,7 @@ use Rattle.grammar.specs.declared.tables.Dim.{Dim}
 use Rattle.grammar.specs.declared.tables.Var.{Var}
 use Rattle.grammar.specs.declared.tables.Tables.{Tables}
 use Rattle.model.specs.Model.{Span, sameName, isNew, distinct, dimNames, varNames, attrNames, namesHold, isUnlimited, oneUnlimited, idHolds, idsHold, modelHolds}
+use Rattle.convert.proofs.Laws.Read.{total-same}
 use Rattle.sizes.specs.Records.{product, total, smallest, lengthAt, isRecord, outer, chunk, chunkBytes, paddedBytes, recordPart, recordSize, maxPosition, maxChunk, sizesHold, endOf, endsHold}
 use Rattle.sizes.specs.Count.{hasUnlimited, hasRecords, isOpen, firstBegin, recordCount}
 
@@ -38,11 +39,6 @@ product-same : (g h : ℕ → ℕ) (n : ℕ) → ((k : ℕ) → k < n → g k �
 unfolding product
 product-same g h zero e = refl
 product-same g h (suc n) e = rw (product-same g h n (λ k l. e k (omega arith)), e n (omega arith))
-
-total-same : (g h : ℕ → ℕ) (n : ℕ) → ((k : ℕ) → k < n → g k ≡ h k) → total g n ≡ total h n
-unfolding total
-total-same g h zero e = refl
-total-same g h (suc n) e = rw (total-same g h n (λ k l. e k (omega arith)), e n (omega arith))
 
 smallest-same : (p q : ℕ → Bool) (g h : ℕ → ℕ) (d n : ℕ) → ((k : ℕ) → k < n → (p k ≡ q k) × (g k ≡ h k)) → smallest p g d n ≡ smallest q h d n
 unfolding smallest

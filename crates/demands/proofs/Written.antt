@@ -44,6 +44,7 @@ use Rattle.order.specs.Writable.{isInside, dimInside, attrInside, varInside, ro
 use Rattle.model.specs.Model.{namesHold, oneUnlimited, idsHold, modelHolds}
 use Rattle.sizes.specs.Records.{sizesHold, endsHold, maxPosition}
 use Rattle.sizes.specs.Count.{recordCount}
+use Rattle.convert.proofs.Laws.Read.{same-inside}
 use Rattle.header.specs.Header.{answer, judged, readHeader}
 use Rattle.header.specs.declared.reader.Header.{Header}
 use Rattle.header.proofs.Laws.Accepted.{Came, accepted-came, tree-size}
@@ -88,10 +89,6 @@ cleared-length : (ps s : List ℕ) → length (cleared ps s) ≡ length s
 unfolding cleared
 cleared-length [] s = refl
 cleared-length (p ∷ ps) s = cleared-length ps (set s p 0) ∙ length-set s p 0
-
-same-inside : (s : List ℕ) (t : Tables) (n : ℕ) → rowsInside s (withCount t n) ≡ rowsInside s t
-unfolding rowsInside
-same-inside s t n = refl
 
 -- the length of what is written
 back-length : (s u : List ℕ) (m : Contents) → Derives s u m → length (encode m) + length u ≡ length s

@@ -28,6 +28,7 @@ use Rattle.order.proofs.Laws.Rows.{FullRows}
 use Rattle.order.proofs.Laws.Read.{laid-inside, laid-full}
 use Rattle.order.proofs.Laws.Lengths.{encoded-length}
 use Rattle.order.proofs.Laws.Said.{model-ids}
+use Rattle.order.proofs.Laws.Words.{and}
 use Rattle.header.specs.Header.{readHeader}
 use Rattle.header.specs.declared.reader.Header.{Header}
 use Rattle.header.proofs.Laws.Accepted.{Came, accepted-came, tree-size, same-model, same-sizes}
@@ -35,7 +36,7 @@ use Rattle.convert.specs.Convert.{moved, inVersion, movedVar, movedTable
 use Rattle.convert.specs.Inner.Read.{Read, versioned}
 use Rattle.convert.proofs.Laws.Moved.{moved-row}
 
-same-inside : (s : List ℕ) (t : Tables) (n : ℕ) → rowsInside s (withCount t n) ≡ rowsInside s t
+pub same-inside : (s : List ℕ) (t : Tables) (n : ℕ) → rowsInside s (withCount t n) ≡ rowsInside s t
 unfolding rowsInside
 same-inside s t n = refl
 
@@ -101,13 +102,10 @@ begin-small t e i l =
     let a = both (allBelow (t .nvars) (λ j. leb (varAt t j .begin) maxPosition && leb (paddedBytes (t .dims) (varAt t j)) maxChunk)) (leb (recordSize t) maxChunk) e .0 in
     leb-true _ _ (both (leb (varAt t i .begin) maxPosition) _ (holds-at _ (t .nvars) i a l) .0)
 
-total-same : (g h : ℕ → ℕ) (n : ℕ) → ((k : ℕ) → k < n → g k ≡ h k) → total g n ≡ total h n
+pub total-same : (g h : ℕ → ℕ) (n : ℕ) → ((k : ℕ) → k < n → g k ≡ h k) → total g n ≡ total h n
 unfolding total
 total-same g h zero e = refl
 total-same g h (suc n) e = rw (total-same g h n (λ k l. e k (omega arith)), e n (omega arith))
-
-and : {a b : Bool} → a ≡ true → b ≡ true → (a && b) ≡ true
-and e f = rw (e, f)
 
 -- an end is never below its begin
 end-above : (t : Tables) (n : ℕ) (v : Var) → v .begin ≤ endOf t n v
