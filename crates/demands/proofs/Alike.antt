@@ -25,12 +25,12 @@ use Rattle.sizes.specs.Records.{product, total, smallest, lengthAt, isRecord, o
 use Rattle.sizes.specs.Count.{hasUnlimited, hasRecords, isOpen, firstBegin, recordCount}
 
 -- what is the same below n
-all-same : (p q : ℕ → Bool) (n : ℕ) → ((k : ℕ) → k < n → p k ≡ q k) → allBelow n p ≡ allBelow n q
+pub all-same : (p q : ℕ → Bool) (n : ℕ) → ((k : ℕ) → k < n → p k ≡ q k) → allBelow n p ≡ allBelow n q
 unfolding allBelow
 all-same p q zero h = refl
 all-same p q (suc n) h = rw (all-same p q n (λ k l. h k (omega arith)), h n (omega arith))
 
-any-same : (p q : ℕ → Bool) (n : ℕ) → ((k : ℕ) → k < n → p k ≡ q k) → anyBelow n p ≡ anyBelow n q
+pub any-same : (p q : ℕ → Bool) (n : ℕ) → ((k : ℕ) → k < n → p k ≡ q k) → anyBelow n p ≡ anyBelow n q
 unfolding anyBelow
 any-same p q zero h = refl
 any-same p q (suc n) h = rw (any-same p q n (λ k l. h k (omega arith)), h n (omega arith))
@@ -40,7 +40,7 @@ unfolding product
 product-same g h zero e = refl
 product-same g h (suc n) e = rw (product-same g h n (λ k l. e k (omega arith)), e n (omega arith))
 
-smallest-same : (p q : ℕ → Bool) (g h : ℕ → ℕ) (d n : ℕ) → ((k : ℕ) → k < n → (p k ≡ q k) × (g k ≡ h k)) → smallest p g d n ≡ smallest q h d n
+pub smallest-same : (p q : ℕ → Bool) (g h : ℕ → ℕ) (d n : ℕ) → ((k : ℕ) → k < n → (p k ≡ q k) × (g k ≡ h k)) → smallest p g d n ≡ smallest q h d n
 unfolding smallest
 smallest-same p q g h d zero e = refl
 smallest-same p q g h d (suc n) e = rw (smallest-same p q g h d n (λ k l. e k (omega arith)), e n (omega arith) .0, e n (omega arith) .1)
@@ -68,7 +68,7 @@ module _ (s s′ : List ℕ) where
           )
       by false q = rw (← f .chars, ← g .chars, q)
 
-  distinct-same : (names names′ : ℕ → Span) (n : ℕ) → ((i : ℕ) → i < n → SameText (names i) (names′ i)) → distinct s names n ≡ distinct s′ names′ n
+  pub distinct-same : (names names′ : ℕ → Span) (n : ℕ) → ((i : ℕ) → i < n → SameText (names i) (names′ i)) → distinct s names n ≡ distinct s′ names′ n
   unfolding distinct isNew
   distinct-same names names′ n h =
       all-same (isNew s names) (isNew s′ names′) n (λ i l.
@@ -136,7 +136,7 @@ module _ (s s′ : List ℕ) where
           let low = ltb-true _ _ (both (ltb (idAt (varAt t i) j) (t .ndims)) _ h .0) in
           k .lengths (idAt (varAt t i) j) low ∙ ap (λ (n : ℕ). getD (t′ .dims) n noDim .length) (v .ids j m)
 
-      record-same : (i : ℕ) → i < t .nvars → isRecord (t .dims) (varAt t i) ≡ isRecord (t′ .dims) (varAt t′ i)
+      pub record-same : (i : ℕ) → i < t .nvars → isRecord (t .dims) (varAt t i) ≡ isRecord (t′ .dims) (varAt t′ i)
       unfolding isRecord
       record-same i l = by (ltb 0 (varAt t i .rank)) refl
         where
@@ -144,7 +144,7 @@ module _ (s s′ : List ℕ) where
           by true q = ap (λ (n : ℕ). ltb 0 (varAt t i .rank) && eqb n 0) (length-same i 0 l (ltb-true _ _ q)) ∙ ap (λ (n : ℕ). ltb 0 n && eqb (lengthAt (t′ .dims) (varAt t′ i) 0) 0) (k .vars i l .rank)
           by false q = let p : ltb 0 (varAt t′ i .rank) ≡ false = ap (ltb 0) (sym (k .vars i l .rank)) ∙ q in rw (p, q)
 
-      chunk-same : (i : ℕ) → i < t .nvars → chunk (t .dims) (varAt t i) ≡ chunk (t′ .dims) (varAt t′ i)
+      pub chunk-same : (i : ℕ) → i < t .nvars → chunk (t .dims) (varAt t i) ≡ chunk (t′ .dims) (varAt t′ i)
       unfolding chunk
       chunk-same i l =
           let o : outer (t .dims) (varAt t i) ≡ outer (t′ .dims) (varAt t′ i) = ap (λ (b : Bool). cond b 1 0) (record-same i l) in
@@ -157,7 +157,7 @@ module _ (s s′ : List ℕ) where
       unfolding paddedBytes chunkBytes
       padded-same i l = ap (λ (n : ℕ). n * sizeOf (varAt t i .code) + padding (n * sizeOf (varAt t i .code))) (chunk-same i l) ∙ ap (λ (c : ℕ). chunk (t′ .dims) (varAt t′ i) * sizeOf c + padding (chunk (t′ .dims) (varAt t′ i) * sizeOf c)) (k .vars i l .code)
 
-      step-same : recordSize t ≡ recordSize t′
+      pub step-same : recordSize t ≡ recordSize t′
       unfolding recordSize
       step-same =
           total-same (λ i. recordPart (t .dims) (varAt t i)) (λ i. recordPart (t′ .dims) (varAt t′ i)) (t .nvars)

@@ -9,3 +9,6 @@ pub mod Alike
 pub mod Placed
 pub mod Derived
 pub mod Written
+pub mod Converted
+pub mod Accepts
+pub mod Twice

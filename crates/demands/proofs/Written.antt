@@ -9,7 +9,7 @@ use lib.Seq.{take-at}
 use lib.Dec.{leb, eqb}
 use borrow.Author.Tests.{leb-true, le-leb, eq-eqb, eqb-true}
 use Rattle.cdf.specs.Step.{Step, got, stop, bind, test, need, into, numberOf, givenOr}
-use Rattle.cdf.specs.Below.{allBelow}
+use Rattle.cdf.specs.Below.{between, allBelow}
 use Rattle.cdf.specs.Magic.{bothVersions, admits}
 use Rattle.cdf.specs.declared.version.Admitted.{Admitted}
 use Rattle.cdf.proofs.Laws.Below.{both, all-hold, holds-at}
@@ -41,13 +41,14 @@ use Rattle.rules.proofs.Laws.Range.{header-range}
 use Rattle.rules.proofs.Laws.Cleared.{header-back}
 use Rattle.order.proofs.Laws.Read.{length-padded, no-item, dim-row, attr-row, var-row, laid-inside}
 use Rattle.order.specs.Writable.{isInside, dimInside, attrInside, varInside, rowsInside, toWrite, countHolds, sizeHolds, writable}
-use Rattle.model.specs.Model.{namesHold, oneUnlimited, idsHold, modelHolds}
+use Rattle.model.specs.Model.{namesHold, oneUnlimited, idHolds, idsHold, modelHolds}
 use Rattle.sizes.specs.Records.{sizesHold, endsHold, maxPosition}
 use Rattle.sizes.specs.Count.{recordCount}
 use Rattle.convert.proofs.Laws.Read.{same-inside}
 use Rattle.header.specs.Header.{answer, judged, readHeader}
 use Rattle.header.specs.declared.reader.Header.{Header}
-use Rattle.header.proofs.Laws.Accepted.{Came, accepted-came, tree-size}
+use Rattle.header.proofs.Laws.Accepted.{Came, accepted-came, tree-size, same-sizes, same-ends}
+use Rattle.reads.specs.Sought.{shapeHolds, tablesHold}
 use Rattle.header.proofs.Laws.Refusals.{Refuses, gives, stops, count-refuses}
 use Rattle.demands.proofs.Alike.{Alike, model-same, sizes-same, count-same, ends-same}
 use Rattle.demands.proofs.Placed.{PlacedVar, Placed, said-alike}
@@ -152,6 +153,55 @@ pub read-is-writable : ReadIsWritable
 unfolding ReadIsWritable table
 read-is-writable s size a bytes z = table-writable s size a bytes z
 
+pub read-size : (s : List ℕ) (size : ℕ) (a : Admitted) → AreBytes s → readHeader s size a .number ≡ 0 → readHeader s size a .tables .size ≡ size
+unfolding table
+read-size s size a bytes z = table-size s size a bytes z
+
+pub read-short : (s : List ℕ) (size : ℕ) (a : Admitted) → AreBytes s → readHeader s size a .number ≡ 0 → length (encode (toWrite s (readHeader s size a .tables))) ≤ length s
+unfolding table
+read-short s size a bytes z = short-enough s size a bytes z
+
+pub read-end : (s : List ℕ) (size : ℕ) (a : Admitted) → AreBytes s → readHeader s size a .number ≡ 0 → length (encode (toWrite s (readHeader s size a .tables))) ≡ readHeader s size a .end
+unfolding table
+read-end s size a bytes z = end-is s size a bytes z
+
+-- the tables of an accepted header: every row where it says, and in order for reads
+module _ (s : List ℕ) (size : ℕ) (a : Admitted) (z : readHeader s size a .number ≡ 0) where
+  pub read-placed : Placed s (readHeader s size a .tables)
+  read-placed =
+      let c = accepted-came s size a z in
+      let p = laid-placed s (c .tree) (read-held s size a (c .read)) (read-within a s size (into-got laid refl (c .read))) in
+      subst (Placed s) (sym (ap (λ (x : Header). x .tables) (c .is)))
+      (record {
+        ndims = p .ndims;
+        dims = p .dims;
+        nglobals = p .nglobals;
+        globals = p .globals;
+        nvars = p .nvars;
+        vars = λ i l. let v = p .vars i l in record { name = v .name; rank = v .rank; span = v .span; rows = v .rows };
+      })
+
+  pub read-holds : tablesHold (readHeader s size a .tables) ≡ true
+  unfolding tablesHold shapeHolds modelHolds idsHold idHolds
+  read-holds =
+      let c = accepted-came s size a z in
+      let t = laid (c .tree) in
+      let w = read-within a s size (into-got laid refl (c .read)) in
+      let m = both (namesHold s t) (oneUnlimited t && idsHold t) (c .model) in
+      let ids : idsHold (withCount t (c .count)) ≡ true = same-ids t (c .count) ∙ both (oneUnlimited t) (idsHold t) (m .1) .1 in
+      subst (λ (x : Tables). tablesHold x ≡ true) (sym (ap (λ (x : Header). x .tables) (c .is)))
+      (rw (
+        le-leb (t .ndims) 32 (w .dims),
+        le-leb (t .nvars) 64 (w .vars),
+        all-hold (λ i. leb (varAt t i .rank) 8 && between 1 6 (varAt t i .code)) (t .nvars) (λ i l. let v = w .rows i l in rw (le-leb (varAt t i .rank) 8 (v .rank), le-leb 1 (varAt t i .code) (v .low), le-leb (varAt t i .code) 6 (v .high))),
+        ids,
+        same-sizes t (c .count) ∙ c .sizes,
+        same-ends t (c .count) (c .count) ∙ c .ends,
+      ))
+    where
+      same-ids : (t : Tables) (n : ℕ) → idsHold (withCount t n) ≡ idsHold t
+      same-ids t n = refl
+
 pub read-is-given-back : ReadIsGivenBack
 unfolding ReadIsGivenBack AcceptedIsDerived table
 read-is-given-back s size a bytes z =
@@ -162,7 +212,7 @@ read-is-given-back s size a bytes z =
 
 -- the rows of tables that are writable are where they say
 module _ (s : List ℕ) (t : Tables) (rows : HasRows t) (k : rowsInside s t ≡ true) where
-  inside-placed : Placed s t
+  pub inside-placed : Placed s t
   unfolding rowsInside
   inside-placed =
       let a = both (leb (t .ndims) 32) _ k in

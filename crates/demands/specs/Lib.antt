@@ -7,3 +7,4 @@ pub mod ValueReads
 pub mod Laid
 pub mod Derived
 pub mod Written
+pub mod Converted
