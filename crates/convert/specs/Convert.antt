@@ -27,7 +27,7 @@ use Rattle.convert.specs.declared.convert.Converted.{Converted}
 abbrev pub moved : ℕ → ℕ → ℕ → ℕ
 moved old new p = p - old + new
 
--- a header's contents in another version
+-- what a header says, in another version (BNF: magic)
 abbrev pub inVersion : ℕ → Contents → Contents
 inVersion version m = record { version = version; word = m .word; dimensions = m .dimensions; globals = m .globals; variables = m .variables }
 
@@ -69,7 +69,7 @@ pub record New : Type 0 where
   pub size : ℕ
 
 module _ (version : ℕ) (s : List ℕ) (h : Header) where
-  -- where the header ends in the version
+  -- "new header length": where the header ends in the version. A begin takes as many bytes wherever it lies, so that it is known before the begins move
   abbrev pub newEnd : ℕ
   newEnd = length (encode (inVersion version (toWrite s (h .tables))))
 
@@ -77,15 +77,15 @@ module _ (version : ℕ) (s : List ℕ) (h : Header) where
   abbrev pub newTables : Tables
   newTables = movedTables version (moved (h .end) newEnd) (h .tables)
 
-  -- 24: no begin lies below the header's end
+  -- 24 otherwise: "a begin lies below the header's end". Asked also where the version stays
   abbrev pub beginsBehind : Bool
   beginsBehind = allBelow (h .tables .nvars) (λ i. leb (h .end) (varAt (h .tables) i .begin))
 
-  -- 25: every moved begin has a form in the version
+  -- 25 otherwise: "a moved begin above 2147483647", which has no form in version 1. In version 2 every one has, so that 25 belongs to narrowing
   abbrev pub beginsFit : Bool
   beginsFit = allBelow (newTables .nvars) (λ i. ltb (varAt newTables i .begin) (half (form version .beginBytes)))
 
-  -- 01, Order: "24, 25, new size over 2^62 (21), new ends (15), 22"; the new header is the writer's
+  -- 01, Order: "24, 25, new size over 2^62 (21), new ends (15), 22". The new header is what the writer makes of the new tables; its own 23 never comes (`ConvertedIsWritable`)
   unfoldable pub converted : List ℕ → Step New
   converted out =
       need beginsBehind 24 0 (

@@ -7,22 +7,22 @@ use mathlib.Core.Logic.{_⊎_, inl, inr}
 use mathlib.Core.List.{List, _++_}
 use lib.ListN.{length, drop}
 use lib.Dec.{ltb, leb, eqb}
-use borrow.Author.Tests.{leb-true, le-leb, le-ltb, ltb-true, lt-ltb, eqb-true, eq-eqb}
+use borrow.Author.Tests.{leb-true, le-leb, le-ltb, lt-ltb, eqb-true, eq-eqb}
 use Rattle.cdf.specs.Step.{Step, got, stop, test, need, into, numberOf}
 use Rattle.cdf.specs.Below.{allBelow}
 use Rattle.cdf.specs.Magic.{bothVersions}
 use Rattle.cdf.proofs.Laws.Below.{order, one-fails}
-use Rattle.cdf.proofs.Laws.Step.{by-true, by-false}
+use Rattle.cdf.proofs.Laws.Step.{by-true}
 use Rattle.grammar.specs.Tables.{varAt}
 use Rattle.grammar.specs.declared.tables.Tables.{Tables}
 use Rattle.rules.specs.Encode.{encode}
 use Rattle.sizes.specs.Records.{endsHold, maxPosition}
 use Rattle.order.specs.Writable.{toWrite, writable}
-use Rattle.header.specs.Header.{readHeader, afterHeader}
+use Rattle.header.specs.Header.{readHeader}
 use Rattle.header.specs.declared.reader.Header.{Header}
 use Rattle.header.proofs.Laws.Header.{after-read}
 use Rattle.writer.specs.Writes.{writeHeader}
-use Rattle.convert.specs.Convert.{New, newEnd, newTables, beginsBehind, beginsFit, converted, convert}
+use Rattle.convert.specs.Convert.{newEnd, newTables, beginsBehind, beginsFit, converted, convert}
 use Rattle.convert.proofs.Laws.Convert.{by-25, by-writer}
 use Rattle.demands.specs.Derived.{AreBytes}
 use Rattle.demands.specs.Converted.{Convertible, ConvertedIsWritable, AcceptsExactly, TwentyFiveExactly}

@@ -1,13 +1,12 @@
 -- Tables that say the same are judged alike: rules 11 to 15 look at names by their bytes and at numbers, never at places.
-use Prim.Native.Nat.{ℕ, zero, suc, _+_, _-_, _*_, _≤_, _<_, min}
+use Prim.Native.Nat.{ℕ, zero, suc, _+_, _-_, _*_, _<_}
 use native.Mathlib.Omega.{arith}
-use mathlib.Core.Path.{_≡_, refl, sym, ap, subst, _∙_}
-use mathlib.Core.Bool.{Bool, true, false, cond, _&&_, _||_, not}
+use mathlib.Core.Path.{_≡_, refl, sym, ap, _∙_}
+use mathlib.Core.Bool.{Bool, true, false, cond, _&&_, not}
 use mathlib.Core.List.{List}
 use lib.ListN.{length, getD}
 use lib.Dec.{ltb, leb, eqb}
 use borrow.Author.Tests.{eqb-true, ltb-true}
-use Rattle.cdf.specs.Step.{Step, got, test, need, unless}
 use Rattle.cdf.specs.Below.{allBelow, anyBelow}
 use Rattle.cdf.proofs.Laws.Below.{both, holds-at}
 use Rattle.cdf.specs.Form.{form}
@@ -15,8 +14,7 @@ use Rattle.cdf.specs.Padding.{padding}
 use Rattle.cdf.specs.Word.{indeterminate}
 use Rattle.items.specs.Name.{sameBytes}
 use Rattle.items.specs.Types.{sizeOf}
-use Rattle.grammar.specs.Tables.{noDim, dimAt, attrAt, varAt, idAt}
-use Rattle.grammar.specs.declared.tables.Dim.{Dim}
+use Rattle.grammar.specs.Tables.{noDim, dimAt, varAt, idAt}
 use Rattle.grammar.specs.declared.tables.Var.{Var}
 use Rattle.grammar.specs.declared.tables.Tables.{Tables}
 use Rattle.model.specs.Model.{Span, sameName, isNew, distinct, dimNames, varNames, attrNames, namesHold, isUnlimited, oneUnlimited, idHolds, idsHold, modelHolds}

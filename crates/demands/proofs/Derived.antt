@@ -2,14 +2,14 @@
 use Prim.Native.Nat.{ℕ, zero, suc, _+_, _^_, _≤_, _<_}
 use native.Mathlib.Omega.{arith}
 use mathlib.Core.Path.{_≡_, refl, sym, ap, subst, _∙_}
-use mathlib.Core.Bool.{Bool, true, false, _&&_}
+use mathlib.Core.Bool.{true, _&&_}
 use mathlib.Core.List.{List, [], _∷_, _++_, map}
-use lib.ListN.{length, getD, drop, length-map, List·getD-map}
+use lib.ListN.{length, getD, drop}
 use lib.Dec.{leb}
 use borrow.Author.Tests.{leb-true, le-leb}
-use Rattle.cdf.specs.Step.{Step, got, bind, test, need, into}
+use Rattle.cdf.specs.Step.{got}
 use Rattle.cdf.specs.Below.{allBelow}
-use Rattle.cdf.specs.Magic.{admits, magic, versionByte}
+use Rattle.cdf.specs.Magic.{admits, versionByte}
 use Rattle.cdf.specs.declared.version.Admitted.{Admitted}
 use Rattle.cdf.proofs.Laws.Below.{both, holds-at}
 use Rattle.cdf.proofs.Laws.Step.{bind-came, test-came, got-same, into-got, by-got, by-true, either}
@@ -33,13 +33,12 @@ use Rattle.rules.proofs.Laws.Encoded.{encode-derived}
 use Rattle.rules.proofs.Laws.Range.{header-range}
 use Rattle.rules.proofs.Laws.Weaken.{header-more}
 use Rattle.rules.proofs.Laws.Cleared.{header-back}
-use Rattle.sizes.specs.Records.{sizesHold, endsHold, maxPosition, paddedBytes, maxChunk, recordSize}
-use Rattle.sizes.specs.Count.{hasUnlimited, hasRecords, firstBegin, recordCount}
-use Rattle.model.specs.Model.{namesHold, oneUnlimited, idHolds, idsHold, modelHolds}
+use Rattle.sizes.specs.Records.{sizesHold, maxPosition, paddedBytes, maxChunk, recordSize}
+use Rattle.sizes.specs.Count.{recordCount}
 use Rattle.header.specs.Header.{answer, judged, readHeader}
 use Rattle.header.specs.declared.reader.Header.{Header}
-use Rattle.header.proofs.Laws.Accepted.{Came, accepted-came, tree-size, same-model, same-sizes, same-count, same-ends}
-use Rattle.demands.specs.Derived.{AreBytes, Allowed, AcceptedIsDerived, DerivedIsRead, OneMeaning, NoPrefix, EncodeIsDerived, DerivedIsInRange, BytesBack}
+use Rattle.header.proofs.Laws.Accepted.{accepted-came, same-model, same-sizes, same-count, same-ends}
+use Rattle.demands.specs.Derived.{Allowed, AcceptedIsDerived, DerivedIsRead, OneMeaning, NoPrefix, EncodeIsDerived, DerivedIsInRange, BytesBack}
 
 -- the begin of a row is that of its variable
 row-begin : (first : ℕ) (vs : List VarItem) (i : ℕ) → i < length vs → getD (varRows first vs) i noVar .begin ≡ getD vs i (record { name = 0; chars = 0; ids = []; attrs = []; code = 0; vsize = 0; begin = 0 }) .begin

@@ -9,6 +9,9 @@ pub mod Alike
 pub mod Placed
 pub mod Derived
 pub mod Written
+pub mod Moved
 pub mod Converted
+pub mod Bits
 pub mod Accepts
 pub mod Twice
+pub mod Widths

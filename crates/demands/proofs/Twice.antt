@@ -1,33 +1,28 @@
 -- Files that are converted twice, and files that stay in their version.
-use Prim.Native.Nat.{ℕ, _+_, _-_, _≤_, _<_}
+use Prim.Native.Nat.{ℕ, _+_}
 use native.Mathlib.Omega.{arith}
-use mathlib.Core.Path.{_≡_, refl, sym, ap, subst, _∙_}
-use mathlib.Core.Bool.{true}
+use mathlib.Core.Path.{_≡_, refl, sym, ap, _∙_}
 use mathlib.Core.List.{List, [], _∷_, _++_, map, append-nil}
-use lib.ListN.{length, take, drop}
-use lib.Seq.{drop-at, length-take-le, getD-take}
+use lib.ListN.{length, drop}
+use lib.Seq.{drop-at}
 use lib.Dec.{leb}
 use borrow.Author.Tests.{leb-true}
 use Rattle.cdf.specs.Magic.{bothVersions}
 use Rattle.cdf.proofs.Laws.Below.{holds-at}
-use Rattle.grammar.specs.Tree.{VarItem}
-use Rattle.grammar.specs.Tables.{noVar, varAt}
-use Rattle.grammar.specs.Meaning.{Variable, Contents, variable, contents, itemOf, held, said}
-use Rattle.grammar.specs.declared.tables.Var.{Var}
-use Rattle.grammar.specs.declared.tables.Tables.{Tables}
+use Rattle.grammar.specs.Tables.{varAt}
+use Rattle.grammar.specs.Meaning.{Variable, Contents, contents, held, said}
 use Rattle.rules.specs.Encode.{encode}
 use Rattle.rules.proofs.Laws.Views.{EachIs}
-use Rattle.rules.proofs.Laws.Capacity.{each-map}
-use Rattle.rules.proofs.Laws.Sequence.{all-of}
 use Rattle.order.specs.Writable.{toWrite}
 use Rattle.header.specs.Header.{readHeader}
 use Rattle.header.specs.declared.reader.Header.{Header}
-use Rattle.convert.specs.Convert.{moved, inVersion, movedTables, newEnd, newTables, beginsBehind}
+use Rattle.convert.specs.Convert.{moved, inVersion, newEnd, newTables}
 use Rattle.demands.specs.Derived.{AreBytes}
 use Rattle.demands.specs.Written.{ReadIsGivenBack}
 use Rattle.demands.specs.Converted.{Convertible, ConvertedIsRead, movedVariable, movedContents, oldHeader, shift, newFile, newHeader, ConvertingTwice, StaysInVersion}
 use Rattle.demands.proofs.Written.{read-placed, read-end, read-is-given-back}
-use Rattle.demands.proofs.Converted.{contents-moved, encode-length, new-header-length, converted-is-read}
+use Rattle.demands.proofs.Moved.{contents-moved, begins-said, encode-length}
+use Rattle.demands.proofs.Converted.{new-header-length, converted-is-read}
 
 -- a move after a move
 vars-twice : (f g k : ℕ → ℕ) → ((b : ℕ) → g (f b) ≡ k b) → (vs : List Variable) → map (movedVariable g) (map (movedVariable f) vs) ≡ map (movedVariable k) vs
@@ -83,16 +78,6 @@ vars-stay : (f : ℕ → ℕ) (vs : List Variable) → EachIs (λ (v : Variable)
 vars-stay f [] k = refl
 vars-stay f (v ∷ vs) k = λ i. record { name = v .name; ids = v .ids; attributes = v .attributes; code = v .code; vsize = v .vsize; begin = k .0 i } ∷ vars-stay f vs (k .1) i
 
-behind-said : (P : ℕ → Type 0) (s : List ℕ) (t : Tables) → t .nvars ≤ length (t .vars) → ((i : ℕ) → i < t .nvars → P (varAt t i .begin)) → EachIs (λ (v : Variable). P (v .begin)) (toWrite s t .variables)
-unfolding contents held
-behind-said P s t h k =
-    each-map (variable s) (λ (v : Variable). P (v .begin)) (map (itemOf (t .attrs)) (take (t .nvars) (t .vars)))
-    (each-map (itemOf (t .attrs)) (λ (v : VarItem). P (v .begin)) (take (t .nvars) (t .vars))
-    (all-of (λ (v : Var). P (v .begin)) noVar (take (t .nvars) (t .vars)) (λ i l.
-    let n = length-take-le (t .nvars) (t .vars) h in
-    let q : i < t .nvars = omega arith in
-    subst (λ (v : Var). P (v .begin)) (sym (getD-take (t .nvars) (t .vars) i noVar q)) (k i q))))
-
 module _ (version : ℕ) (s rest : List ℕ) (bytes : AreBytes s) (z : oldHeader version s rest .number ≡ 0) (same : oldHeader version s rest .tables .version ≡ version) (c : Convertible version s (oldHeader version s rest)) where
   version-same : toWrite s (oldHeader version s rest .tables) .version ≡ version
   unfolding contents held
@@ -111,7 +96,7 @@ module _ (version : ℕ) (s rest : List ℕ) (bytes : AreBytes s) (z : oldHeader
       let m = toWrite s t in
       let q = read-placed s (length (s ++ rest)) bothVersions z in
       let stay : EachIs (λ (v : Variable). shift version s rest (v .begin) ≡ v .begin) (m .variables) =
-      behind-said (λ (b : ℕ). shift version s rest b ≡ b) s t (q .nvars) (λ i l.
+      begins-said (λ (b : ℕ). shift version s rest b ≡ b) s t (q .nvars) (λ i l.
       let a = leb-true (x .end) (varAt t i .begin) (holds-at (λ j. leb (x .end) (varAt t j .begin)) (t .nvars) i (c .behind) l) in
       let e = end-stays in
       omega arith) in

@@ -1,40 +1,35 @@
 -- The round trips.
-use Prim.Native.Nat.{ℕ, zero, suc, _+_, _-_, _*_, _≤_, _<_}
+use Prim.Native.Nat.{ℕ, _+_, _≤_, _<_}
 use native.Mathlib.Omega.{arith}
 use mathlib.Core.Path.{_≡_, refl, sym, ap, subst, _∙_}
-use mathlib.Core.Bool.{Bool, true, false, _&&_}
-use mathlib.Core.List.{List, [], _∷_, _++_, map}
+use mathlib.Core.Bool.{true, _&&_}
+use mathlib.Core.List.{List, [], _∷_, _++_}
 use lib.ListN.{length, getD, take, drop, set, length-append, length-drop, length-set}
 use lib.Seq.{take-at}
 use lib.Dec.{leb, eqb}
 use borrow.Author.Tests.{leb-true, le-leb, eq-eqb, eqb-true}
-use Rattle.cdf.specs.Step.{Step, got, stop, bind, test, need, into, numberOf, givenOr}
+use Rattle.cdf.specs.Step.{Step, got, numberOf, givenOr}
 use Rattle.cdf.specs.Below.{between, allBelow}
-use Rattle.cdf.specs.Magic.{bothVersions, admits}
+use Rattle.cdf.specs.Magic.{bothVersions}
 use Rattle.cdf.specs.declared.version.Admitted.{Admitted}
 use Rattle.cdf.proofs.Laws.Below.{both, all-hold, holds-at}
 use Rattle.cdf.proofs.Laws.Step.{into-got, by-got, by-true}
 use Rattle.rules.proofs.Laws.Sound.{got-place}
-use Rattle.items.specs.Types.{sizeOf}
-use Rattle.grammar.specs.Tree.{Tree, VarItem, attrsOf}
-use Rattle.grammar.specs.Tables.{padded, noDim, noAttr, noVar, zeroVar, varRow, varRows, laid, withCount, dimAt, attrAt, varAt}
+use Rattle.grammar.specs.Tree.{Tree, attrsOf}
+use Rattle.grammar.specs.Tables.{noDim, noAttr, zeroVar, varRows, laid, withCount, attrAt, varAt}
 use Rattle.grammar.specs.Grammar.{header}
-use Rattle.grammar.specs.Meaning.{Contents, Meaning, contents, held, said}
+use Rattle.grammar.specs.Meaning.{Contents, contents, held, said}
 use Rattle.grammar.specs.Inner.Within.{Within}
-use Rattle.grammar.specs.declared.tables.Dim.{Dim}
-use Rattle.grammar.specs.declared.tables.Attr.{Attr}
-use Rattle.grammar.specs.declared.tables.Var.{Var}
 use Rattle.grammar.specs.declared.tables.Tables.{Tables}
 use Rattle.grammar.proofs.Laws.Meaning.{laid-held}
-use Rattle.grammar.proofs.Laws.Tables.{getD-padded, length-rows}
 use Rattle.grammar.proofs.Laws.Within.{read-within}
 use Rattle.rules.specs.Rules.{Header as Derives}
 use Rattle.rules.specs.Capacity.{fits}
 use Rattle.rules.specs.Range.{inRange}
 use Rattle.rules.specs.Encode.{encode}
 use Rattle.rules.specs.Cleared.{emptyTags, cleared}
-use Rattle.rules.proofs.Laws.Views.{EachIs, fits-see, range-see, range-tell, version-tell}
-use Rattle.rules.proofs.Laws.Capacity.{DimHeld, AttrHeld, VarHeld, Held, read-held}
+use Rattle.rules.proofs.Laws.Views.{fits-see, range-see, range-tell, version-tell}
+use Rattle.rules.proofs.Laws.Capacity.{Held, read-held}
 use Rattle.rules.proofs.Laws.Complete.{header-complete}
 use Rattle.rules.proofs.Laws.Encoded.{encode-derived}
 use Rattle.rules.proofs.Laws.Range.{header-range}
@@ -47,13 +42,13 @@ use Rattle.sizes.specs.Count.{recordCount}
 use Rattle.convert.proofs.Laws.Read.{same-inside}
 use Rattle.header.specs.Header.{answer, judged, readHeader}
 use Rattle.header.specs.declared.reader.Header.{Header}
-use Rattle.header.proofs.Laws.Accepted.{Came, accepted-came, tree-size, same-sizes, same-ends}
+use Rattle.header.proofs.Laws.Accepted.{accepted-came, tree-size, same-sizes, same-ends}
 use Rattle.reads.specs.Sought.{shapeHolds, tablesHold}
 use Rattle.header.proofs.Laws.Refusals.{Refuses, gives, stops, count-refuses}
-use Rattle.demands.proofs.Alike.{Alike, model-same, sizes-same, count-same, ends-same}
+use Rattle.demands.proofs.Alike.{model-same, sizes-same, count-same, ends-same}
 use Rattle.demands.proofs.Placed.{PlacedVar, Placed, said-alike}
 use Rattle.demands.proofs.Derived.{accepted-is-derived}
-use Rattle.demands.specs.Derived.{AreBytes, Allowed, AcceptedIsDerived}
+use Rattle.demands.specs.Derived.{AreBytes, AcceptedIsDerived}
 use Rattle.demands.specs.Written.{ReadIsWritable, ReadIsGivenBack, HasRows, WrittenIsRead}
 
 -- the rows of a tree that lies inside the bytes

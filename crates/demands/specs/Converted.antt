@@ -1,11 +1,12 @@
 -- Demand 3: "Where widening or narrowing accepts a file, the new header followed by the old bytes from the old header's end reads with the same names, dimensions, attributes, types
 -- and record count".
-use Prim.Native.Nat.{ℕ, _≤_, _<_}
+use Prim.Native.Nat.{ℕ, _+_, _*_, _≤_, _<_}
 use mathlib.Core.Path.{_≡_}
 use mathlib.Core.Bool.{true}
 use mathlib.Core.Logic.{_⊎_}
 use mathlib.Core.List.{List, [], _++_, map}
 use lib.ListN.{length, take, drop}
+use Rattle.cdf.specs.Form.{form}
 use Rattle.cdf.specs.Step.{got, stop, numberOf}
 use Rattle.cdf.specs.Magic.{bothVersions}
 use Rattle.grammar.specs.Tables.{varAt}
@@ -108,3 +109,10 @@ StaysInVersion =
     (s rest : List ℕ) → AreBytes s → (version : ℕ) → oldHeader version s rest .number ≡ 0 → oldHeader version s rest .tables .version ≡ version → Convertible version s (oldHeader version s rest)
     → (d : Derives s (drop (oldHeader version s rest .end) s) (toWrite s (oldHeader version s rest .tables)))
     × (newFile version s rest ≡ take (oldHeader version s rest .end) (cleared (emptyTags (length s) d) s) ++ drop (oldHeader version s rest .end) (s ++ rest))
+
+-- 01: "Every begin moves by new header length minus old, 4 a variable, or 0 where the version stays": a begin has four bytes in version 1 and eight in version 2, and nothing else differs
+unfoldable pub FourAVariable : Type 0
+FourAVariable =
+    (version : ℕ) (s : List ℕ) (size : ℕ) → AreBytes s → readHeader s size bothVersions .number ≡ 0
+    → newEnd version s (readHeader s size bothVersions) + readHeader s size bothVersions .tables .nvars * form (readHeader s size bothVersions .tables .version) .beginBytes
+    ≡ readHeader s size bothVersions .end + readHeader s size bothVersions .tables .nvars * form version .beginBytes

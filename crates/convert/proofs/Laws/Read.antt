@@ -136,7 +136,7 @@ module _ (version : ℕ) (f : ℕ → ℕ) (t : Tables) (full : FullRows t) (few
   unfolding paddedBytes chunkBytes chunk isRecord
   padded-is i l = ap (paddedBytes (t .dims)) (row-is i l)
 
-  record-is : recordSize (movedTables version f t) ≡ recordSize t
+  pub record-is : recordSize (movedTables version f t) ≡ recordSize t
   unfolding recordSize movedTables isRecord paddedBytes chunkBytes chunk
   record-is = total-same (λ i. recordPart (t .dims) (varAt (movedTables version f t) i)) (λ i. recordPart (t .dims) (varAt t i)) (t .nvars) (λ i l. ap (recordPart (t .dims)) (row-is i l))
 
