@@ -1,14 +1,21 @@
 -- Two conforming answers coincide.
 use mathlib.Core.Path.{_≡_, refl, sym, ap, _∙_}
 use Rattle.cdf.specs.Step.{Step, got, stop}
-use Rattle.reads.specs.Element.{ofValue}
+use Rattle.reads.specs.Sought.{ofSought}
+use Rattle.reads.specs.Element.{ofValue, ofTold}
 use Rattle.lookup.specs.Lookup.{ofFound}
+use Rattle.reads.specs.declared.variable.Spread.{Spread}
+use Rattle.reads.specs.declared.variable.Sought.{Sought}
+use Rattle.reads.specs.declared.variable.Sought.the-variants.{Got, Refused as Denied}
+use Rattle.reads.specs.declared.bits.Bits.{Bits}
+use Rattle.reads.specs.declared.bits.Told.{Told}
+use Rattle.reads.specs.declared.bits.Told.the-variants.{Got as Gave, Refused as Withheld}
 use Rattle.reads.specs.declared.element.Value.{Value}
 use Rattle.reads.specs.declared.element.Value.the-variants.{Byte, Char, Short, Int, Float, Double, Refused}
 use Rattle.lookup.specs.declared.names.Found.{Found}
 use Rattle.lookup.specs.declared.names.Found.the-variants.{At, Refused as Missing}
 use Prim.Native.Nat.{ℕ}
-use Rattle.demands.specs.Determined.{HeaderDetermined, OutputsDetermined, ElementsDetermined, LookupsDetermined, NumbersDetermined, WriterDetermined, ConversionDetermined}
+use Rattle.demands.specs.Determined.{HeaderDetermined, OutputsDetermined, FoundDetermined, ElementsDetermined, LoadsDetermined, PartsDetermined, LookupsDetermined, NumbersDetermined, WriterDetermined, ConversionDetermined}
 
 pub header-determined : HeaderDetermined
 unfolding HeaderDetermined
@@ -42,9 +49,42 @@ unfolding found-back
 found-kept (At i) = refl
 found-kept (Missing k) = refl
 
+sought-back : Step Spread → Sought
+sought-back (got v n) = Got v
+sought-back (stop k p) = Denied k
+
+sought-kept : (x : Sought) → sought-back (ofSought x) ≡ x
+unfolding sought-back
+sought-kept (Got v) = refl
+sought-kept (Denied k) = refl
+
+told-back : Step Bits → Told
+told-back (got x n) = Gave x
+told-back (stop k p) = Withheld k
+
+told-kept : (x : Told) → told-back (ofTold x) ≡ x
+unfolding told-back
+told-kept (Gave x) = refl
+told-kept (Withheld k) = refl
+
+pub found-determined : FoundDetermined
+unfolding FoundDetermined
+found-determined y x x′ p q = sym (sought-kept x) ∙ ap sought-back (p ∙ sym q) ∙ sought-kept x′
+
 pub elements-determined : ElementsDetermined
 unfolding ElementsDetermined
-elements-determined y x x′ p q = sym (value-kept x) ∙ ap value-back (p ∙ sym q) ∙ value-kept x′
+elements-determined = (
+  λ y x x′ p q. sym (value-kept x) ∙ ap value-back (p ∙ sym q) ∙ value-kept x′,
+  λ y x x′ p q. sym (told-kept x) ∙ ap told-back (p ∙ sym q) ∙ told-kept x′,
+)
+
+pub loads-determined : LoadsDetermined
+unfolding LoadsDetermined
+loads-determined s r r′ p q = let n = p .0 ∙ sym (q .0) in let t = p .1 ∙ sym (q .1) in λ i. record { number = n i; tables = t i }
+
+pub parts-determined : PartsDetermined
+unfolding PartsDetermined
+parts-determined A B y part old new new′ p q = p ∙ sym q
 
 pub lookups-determined : LookupsDetermined
 unfolding LookupsDetermined

@@ -4,6 +4,8 @@ pub mod Examples
 pub mod Versions
 pub mod RecordCount
 pub mod ValueReads
+pub mod FoundOnce
+pub mod Crossing
 pub mod Laid
 pub mod Alike
 pub mod Placed

@@ -14,7 +14,8 @@ use Rattle.bigendian.proofs.Laws.Lists.{grid-ext, length-tab, getD-tab, tab-ext
 use Rattle.grammar.specs.Tables.{varAt}
 use Rattle.grammar.specs.declared.tables.Tables.{Tables}
 use Rattle.reads.specs.Sought.{tablesHold, spread, sought, soughtAs}
-use Rattle.reads.specs.Reads.{recordAt, elementAt, bits, holds, wholeBytes, recordRead, wholeRead}
+use Rattle.reads.specs.Kept.{wholeBytes}
+use Rattle.reads.specs.Reads.{recordAt, elementAt, bits, holds, recordRead, wholeRead}
 use Rattle.reads.specs.Element.{valueOf, elementOf, elementRead, elementReadAs}
 use Rattle.reads.specs.declared.variable.Spread.{Spread}
 use Rattle.reads.proofs.Laws.Sought.{typed-came}

@@ -1,5 +1,5 @@
 -- Demand 1 (01, What each answer must decide: "That two conforming results coincide is proved"). Each line takes two answers that meet a contract,
--- in the contract's own words: every entry's contract is one of these seven forms (tests/reach looks).
+-- in the contract's own words: every entry's contract has one of these forms (tests/reach looks).
 use Prim.Native.Nat.{ℕ}
 use mathlib.Core.Path.{_≡_}
 use mathlib.Core.List.{List}
@@ -9,10 +9,18 @@ use Rattle.cdf.specs.declared.version.Admitted.{Admitted}
 use Rattle.grammar.specs.declared.tables.Tables.{Tables}
 use Rattle.header.specs.Header.{Conforms}
 use Rattle.header.specs.declared.reader.Header.{Header}
-use Rattle.reads.specs.Element.{ofValue}
+use Rattle.reads.specs.Sought.{ofSought}
+use Rattle.reads.specs.Element.{ofValue, ofTold}
 use Rattle.lookup.specs.Lookup.{ofFound, IsName}
+use Rattle.reads.specs.declared.variable.Spread.{Spread}
+use Rattle.reads.specs.declared.variable.Sought.{Sought}
 use Rattle.reads.specs.declared.element.Value.{Value}
+use Rattle.reads.specs.declared.bits.Bits.{Bits}
+use Rattle.reads.specs.declared.bits.Told.{Told}
 use Rattle.lookup.specs.declared.names.Found.{Found}
+use Rattle.crossing.specs.Words.{Loads}
+use Rattle.crossing.specs.declared.load.Loaded.{Loaded}
+use Rattle.exports.specs.Outputs.{Gets}
 use Rattle.writer.specs.Writes.{Writes}
 use Rattle.writer.specs.declared.header.Written.{Written}
 use Rattle.convert.specs.Convert.{New, Converts}
@@ -27,9 +35,23 @@ unfoldable pub OutputsDetermined : Type 1
 OutputsDetermined =
     (A : Type 0) (out : List A) (y : Step (List A)) (k k′ : ℕ) (new new′ : List A) → Leaves out y k new → Leaves out y k′ new′ → (k ≡ k′) × (new ≡ new′)
 
--- a value: every element read
+-- a variable that is found, for reads of it
+unfoldable pub FoundDetermined : Type 0
+FoundDetermined = (y : Step Spread) (x x′ : Sought) → ofSought x ≡ y → ofSought x′ ≡ y → x ≡ x′
+
+-- a value: every element read; and a value's bits
 unfoldable pub ElementsDetermined : Type 0
-ElementsDetermined = (y : Step Value) (x x′ : Value) → ofValue x ≡ y → ofValue x′ ≡ y → x ≡ x′
+ElementsDetermined =
+    ((y : Step Value) (x x′ : Value) → ofValue x ≡ y → ofValue x′ ≡ y → x ≡ x′)
+    × ((y : Step Bits) (x x′ : Told) → ofTold x ≡ y → ofTold x′ ≡ y → x ≡ x′)
+
+-- tables that are loaded
+unfoldable pub LoadsDetermined : Type 0
+LoadsDetermined = (s : List ℕ) (r r′ : Loaded) → Loads s r → Loads s r′ → r ≡ r′
+
+-- the exported functions of several outputs, whose contracts (`TellsList` and those after it) are a number and this of each output
+unfoldable pub PartsDetermined : Type 1
+PartsDetermined = (A B : Type 0) (y : Step A) (part : A → ℕ → B) (old new new′ : B) → Gets y part old new → Gets y part old new′ → new ≡ new′
 
 -- a variable's number; and a name, which is the same part of the buffer and not merely the same bytes
 unfoldable pub LookupsDetermined : Type 0

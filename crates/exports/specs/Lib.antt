@@ -1,2 +1,4 @@
 -- What the exported functions answer.
-pub mod Numbers
+pub mod Outputs
+pub mod Reader
+pub mod Variable

@@ -3,3 +3,4 @@ pub mod Sought
 pub mod Reads
 pub mod Element
 pub mod Bounded
+pub mod Kept

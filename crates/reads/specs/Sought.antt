@@ -2,7 +2,7 @@
 use Prim.Native.Nat.{ℕ}
 use mathlib.Core.Bool.{Bool, cond, _&&_}
 use lib.Dec.{ltb, leb, eqb}
-use Rattle.cdf.specs.Step.{Step, got, bind, need}
+use Rattle.cdf.specs.Step.{Step, got, stop, bind, need}
 use Rattle.cdf.specs.Below.{between, allBelow}
 use Rattle.items.specs.Types.{sizeOf}
 use Rattle.grammar.specs.Tables.{maxDims, maxVars, maxRank, varAt}
@@ -11,6 +11,8 @@ use Rattle.grammar.specs.declared.tables.Tables.{Tables}
 use Rattle.model.specs.Model.{idsHold}
 use Rattle.sizes.specs.Records.{isRecord, chunk, recordSize, sizesHold, endsHold}
 use Rattle.reads.specs.declared.variable.Spread.{Spread}
+use Rattle.reads.specs.declared.variable.Sought.{Sought}
+use Rattle.reads.specs.declared.variable.Sought.the-variants.{Got, Refused}
 
 -- 01, number 23: "a read tests the numbers of dimensions, variables and dimensions a variable, .. type codes"
 unfoldable pub shapeHolds : Tables → Bool
@@ -42,3 +44,8 @@ sought t i =
 -- and then 17, which "belongs to typed reads"
 unfoldable pub soughtAs : ℕ → Tables → ℕ → Step Spread
 soughtAs code t i = bind (sought t i) (λ v _. need (eqb (v .code) code) 17 0 (got v 0))
+
+-- the number and the value of each case of the answer of the function that finds a variable: 0 and the variable, or the refusal's and none
+abbrev pub ofSought : Sought → Step Spread
+ofSought (Got v) = got v 0
+ofSought (Refused k) = stop k 0

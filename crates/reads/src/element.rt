@@ -5,13 +5,14 @@ ghost use lib.ListN.{length};
 ghost use Rattle.bigendian.specs.Number.{be};
 ghost use Rattle.items.specs.Types.{sizeOf};
 ghost use Rattle.reads.specs.Inner.Spot.{Bounded};
-ghost use Rattle.reads.specs.Element.{valueOf, elementOf, elementRead, elementReadAs, ofValue};
+ghost use Rattle.reads.specs.Sought.{ofSought};
+ghost use Rattle.reads.specs.Element.{valueOf, elementOf, elementFrom, elementFromAs, ofValue};
+use crate::kept::kept;
+use crate::kept::kept_as;
 use crate::place::Spot;
 use crate::place::element_spot;
 use crate::variable::Sought;
 use crate::variable::Spread;
-use crate::variable::seek;
-use crate::variable::seek_as;
 use bigendian::number::be32;
 use bigendian::number::be64;
 use decode::pattern::f32_of;
@@ -20,7 +21,6 @@ use decode::pattern::i8_of;
 use decode::pattern::i16_of;
 use decode::pattern::i32_of;
 use decode::short::be16;
-use grammar::tables::Tables;
 use items::types::DataType;
 
 // A value of the variable's type, or the number of the refusal. A float and a double have their bits beside them: the language has one
@@ -78,59 +78,59 @@ fn element_of(s: &[u8], start: u64, r: u64, e: u64, v: Spread) -> Value
     }
 }
 
-// Element `e` of record `r` of the variable `i`, whatever its type; `s` starts at the file's position `start`.
-pub fn read_element(t: Tables, s: &[u8], start: u64, i: usize, r: u64, e: u64) -> Value
-    ensures { λ x. ⌜ ofValue x ≡ elementRead t (now (s .entry)) start i r e ⌝ }
+// Element `e` of record `r` of what was found, whatever its type; `s` starts at the file's position `start`.
+pub fn read_element(found: Sought, s: &[u8], start: u64, r: u64, e: u64) -> Value
+    ensures { λ x. ⌜ ofValue x ≡ elementFrom (ofSought found) (now (s .entry)) start r e ⌝ }
 {
-    match seek(t, i) {
+    match kept(found) {
         Sought::Refused(k) => Value::Refused(k),
         Sought::Got(v) => element_of(s, start, r, e, v),
     }
 }
 
 // The same of a variable that must have the type `code`.
-fn read_element_as(code: u8, t: Tables, s: &[u8], start: u64, i: usize, r: u64, e: u64) -> Value
-    ensures { λ x. ⌜ ofValue x ≡ elementReadAs code t (now (s .entry)) start i r e ⌝ }
+fn read_element_as(code: u8, found: Sought, s: &[u8], start: u64, r: u64, e: u64) -> Value
+    ensures { λ x. ⌜ ofValue x ≡ elementFromAs code (ofSought found) (now (s .entry)) start r e ⌝ }
 {
-    match seek_as(code, t, i) {
+    match kept_as(code, found) {
         Sought::Refused(k) => Value::Refused(k),
         Sought::Got(v) => element_of(s, start, r, e, v),
     }
 }
 
 // The six typed reads: the case of the type that the name says, or the refusal.
-pub fn read_element_i8(t: Tables, s: &[u8], start: u64, i: usize, r: u64, e: u64) -> Value
-    ensures { λ x. ⌜ ofValue x ≡ elementReadAs 1 t (now (s .entry)) start i r e ⌝ }
+pub fn read_element_i8(found: Sought, s: &[u8], start: u64, r: u64, e: u64) -> Value
+    ensures { λ x. ⌜ ofValue x ≡ elementFromAs 1 (ofSought found) (now (s .entry)) start r e ⌝ }
 {
-    read_element_as(DataType::CODE_I8, t, s, start, i, r, e)
+    read_element_as(DataType::CODE_I8, found, s, start, r, e)
 }
 
-pub fn read_element_u8(t: Tables, s: &[u8], start: u64, i: usize, r: u64, e: u64) -> Value
-    ensures { λ x. ⌜ ofValue x ≡ elementReadAs 2 t (now (s .entry)) start i r e ⌝ }
+pub fn read_element_u8(found: Sought, s: &[u8], start: u64, r: u64, e: u64) -> Value
+    ensures { λ x. ⌜ ofValue x ≡ elementFromAs 2 (ofSought found) (now (s .entry)) start r e ⌝ }
 {
-    read_element_as(DataType::CODE_U8, t, s, start, i, r, e)
+    read_element_as(DataType::CODE_U8, found, s, start, r, e)
 }
 
-pub fn read_element_i16(t: Tables, s: &[u8], start: u64, i: usize, r: u64, e: u64) -> Value
-    ensures { λ x. ⌜ ofValue x ≡ elementReadAs 3 t (now (s .entry)) start i r e ⌝ }
+pub fn read_element_i16(found: Sought, s: &[u8], start: u64, r: u64, e: u64) -> Value
+    ensures { λ x. ⌜ ofValue x ≡ elementFromAs 3 (ofSought found) (now (s .entry)) start r e ⌝ }
 {
-    read_element_as(DataType::CODE_I16, t, s, start, i, r, e)
+    read_element_as(DataType::CODE_I16, found, s, start, r, e)
 }
 
-pub fn read_element_i32(t: Tables, s: &[u8], start: u64, i: usize, r: u64, e: u64) -> Value
-    ensures { λ x. ⌜ ofValue x ≡ elementReadAs 4 t (now (s .entry)) start i r e ⌝ }
+pub fn read_element_i32(found: Sought, s: &[u8], start: u64, r: u64, e: u64) -> Value
+    ensures { λ x. ⌜ ofValue x ≡ elementFromAs 4 (ofSought found) (now (s .entry)) start r e ⌝ }
 {
-    read_element_as(DataType::CODE_I32, t, s, start, i, r, e)
+    read_element_as(DataType::CODE_I32, found, s, start, r, e)
 }
 
-pub fn read_element_f32(t: Tables, s: &[u8], start: u64, i: usize, r: u64, e: u64) -> Value
-    ensures { λ x. ⌜ ofValue x ≡ elementReadAs 5 t (now (s .entry)) start i r e ⌝ }
+pub fn read_element_f32(found: Sought, s: &[u8], start: u64, r: u64, e: u64) -> Value
+    ensures { λ x. ⌜ ofValue x ≡ elementFromAs 5 (ofSought found) (now (s .entry)) start r e ⌝ }
 {
-    read_element_as(DataType::CODE_F32, t, s, start, i, r, e)
+    read_element_as(DataType::CODE_F32, found, s, start, r, e)
 }
 
-pub fn read_element_f64(t: Tables, s: &[u8], start: u64, i: usize, r: u64, e: u64) -> Value
-    ensures { λ x. ⌜ ofValue x ≡ elementReadAs 6 t (now (s .entry)) start i r e ⌝ }
+pub fn read_element_f64(found: Sought, s: &[u8], start: u64, r: u64, e: u64) -> Value
+    ensures { λ x. ⌜ ofValue x ≡ elementFromAs 6 (ofSought found) (now (s .entry)) start r e ⌝ }
 {
-    read_element_as(DataType::CODE_F64, t, s, start, i, r, e)
+    read_element_as(DataType::CODE_F64, found, s, start, r, e)
 }

@@ -4,8 +4,8 @@ ghost use mathlib.Core.Bool.{true, cond};
 ghost use Prim.Native.Nat.{ℕ, _≤_, _<_};
 ghost use Rattle.grammar.specs.Tables.{idAt};
 ghost use Rattle.sizes.specs.Records.{chunk, recordSize, maxChunk};
-ghost use Rattle.reads.specs.Sought.{shapeHolds, tablesHold, spread, sought, soughtAs};
-ghost use Rattle.reads.specs.Inner.Spot.{rowHolds, ofSought};
+ghost use Rattle.reads.specs.Sought.{shapeHolds, tablesHold, spread, sought, ofSought};
+ghost use Rattle.reads.specs.Inner.Spot.{rowHolds};
 use grammar::tables::MAX_DIMS;
 use grammar::tables::MAX_RANK;
 use grammar::tables::MAX_VARS;
@@ -124,8 +124,8 @@ fn described(t: Tables, v: Var, step: u64) -> Spread
     }
 }
 
-// The variable `i`.
-pub(crate) fn seek(t: Tables, i: usize) -> Sought
+// The variable `i`, for reads of it: 23 or 16 where there is none.
+pub fn seek(t: Tables, i: usize) -> Sought
     ensures { λ r. ⌜ ofSought r ≡ sought t i ⌝ }
 {
     let tested = tables_hold(t);
@@ -139,19 +139,4 @@ pub(crate) fn seek(t: Tables, i: usize) -> Sought
     let v = vars[i];
     let step = tested.step;
     Sought::Got(described(t, v, step))
-}
-
-// The variable `i`, which must have the type `code`.
-pub fn seek_as(code: u8, t: Tables, i: usize) -> Sought
-    ensures { λ r. ⌜ ofSought r ≡ soughtAs code t i ⌝ }
-{
-    match seek(t, i) {
-        Sought::Refused(k) => Sought::Refused(k),
-        Sought::Got(v) => {
-            if v.code != code {
-                return Sought::Refused(17);
-            }
-            Sought::Got(v)
-        }
-    }
 }

@@ -1,13 +1,13 @@
 // The records that a read decodes, as places in the window.
 ghost use mathlib.Core.Path.{_≡_};
 ghost use Rattle.reads.specs.Inner.Spot.{Bounded};
-ghost use Rattle.records.specs.Inner.Stretch.{ofStretched, recordStretch, wholeStretch, recordOf, wholeOf};
+ghost use Rattle.reads.specs.Sought.{ofSought};
+ghost use Rattle.records.specs.Inner.Stretch.{ofStretched, recordStretch, wholeStretch, recordPlaced, wholePlaced};
 use decode::room::product_within;
-use grammar::tables::Tables;
+use reads::kept::kept_as;
 use reads::place::holds;
 use reads::variable::Sought;
 use reads::variable::Spread;
-use reads::variable::seek_as;
 
 // `count` chunks of `chunk` elements, the first at `at`, one `stride` bytes after the other.
 pub struct Stretch {
@@ -77,36 +77,28 @@ fn whole_stretch(v: Spread, have: usize, start: u64, room: usize) -> Stretched
     })
 }
 
-// The chunk of record `r` of the variable `i`, which must have the type `code`.
+// The chunk of record `r` of what was found, which must have the type `code`.
 pub(crate) fn record_of(
     code: u8,
-    t: Tables,
+    found: Sought,
     have: usize,
     start: u64,
-    i: usize,
     r: u64,
     room: usize,
 ) -> Stretched
-    ensures { λ x. ⌜ ofStretched x ≡ recordOf code t have start i r room ⌝ }
+    ensures { λ x. ⌜ ofStretched x ≡ recordPlaced code (ofSought found) have start r room ⌝ }
 {
-    match seek_as(code, t, i) {
+    match kept_as(code, found) {
         Sought::Refused(k) => Stretched::Refused(k),
         Sought::Got(v) => record_stretch(v, have, start, r, room),
     }
 }
 
-// All records of the variable `i`, which must have the type `code`.
-pub(crate) fn whole_of(
-    code: u8,
-    t: Tables,
-    have: usize,
-    start: u64,
-    i: usize,
-    room: usize,
-) -> Stretched
-    ensures { λ x. ⌜ ofStretched x ≡ wholeOf code t have start i room ⌝ }
+// All records of what was found, which must have the type `code`.
+pub(crate) fn whole_of(code: u8, found: Sought, have: usize, start: u64, room: usize) -> Stretched
+    ensures { λ x. ⌜ ofStretched x ≡ wholePlaced code (ofSought found) have start room ⌝ }
 {
-    match seek_as(code, t, i) {
+    match kept_as(code, found) {
         Sought::Refused(k) => Stretched::Refused(k),
         Sought::Got(v) => whole_stretch(v, have, start, room),
     }

@@ -16,6 +16,7 @@ use reads::element::read_element_i8;
 use reads::element::read_element_i16;
 use reads::element::read_element_i32;
 use reads::element::read_element_u8;
+use reads::variable::seek;
 
 fn show_value(v: Value) {
     match v {
@@ -55,7 +56,7 @@ fn show_value(v: Value) {
 
 // Element `a[2]` of record `a[1]` of the variable `a[0]`.
 pub fn show_element(t: Tables, s: &[u8], start: u64, a: [u64; 4]) {
-    show_value(read_element(t, s, start, a[0] as usize, a[1], a[2]));
+    show_value(read_element(seek(t, a[0] as usize), s, start, a[1], a[2]));
 }
 
 // The same of a variable that must have the type `a[3]`.
@@ -65,12 +66,12 @@ pub fn show_typed(t: Tables, s: &[u8], start: u64, a: [u64; 4]) {
     let e = a[2];
     show_value(
         match a[3] {
-            1 => read_element_i8(t, s, start, i, r, e),
-            2 => read_element_u8(t, s, start, i, r, e),
-            3 => read_element_i16(t, s, start, i, r, e),
-            4 => read_element_i32(t, s, start, i, r, e),
-            5 => read_element_f32(t, s, start, i, r, e),
-            _ => read_element_f64(t, s, start, i, r, e),
+            1 => read_element_i8(seek(t, i), s, start, r, e),
+            2 => read_element_u8(seek(t, i), s, start, r, e),
+            3 => read_element_i16(seek(t, i), s, start, r, e),
+            4 => read_element_i32(seek(t, i), s, start, r, e),
+            5 => read_element_f32(seek(t, i), s, start, r, e),
+            _ => read_element_f64(seek(t, i), s, start, r, e),
         },
     );
 }

@@ -10,6 +10,7 @@ use crate::text::show_int;
 use crate::text::show_short;
 use crate::text::wide;
 use grammar::tables::Tables;
+use reads::variable::seek;
 use records::record::read_record_f32;
 use records::record::read_record_f32_bits;
 use records::record::read_record_f64;
@@ -48,11 +49,11 @@ fn show_i8(number: u8, values: &[i8]) {
 
 fn read_i8(t: Tables, s: &[u8], start: u64, a: Ask, out: &mut [i8]) {
     if a.all {
-        let number = read_whole_i8(t, s, start, a.var, out);
+        let number = read_whole_i8(seek(t, a.var), s, start, out);
         show_i8(number, out);
         return;
     }
-    let number = read_record_i8(t, s, start, a.var, a.record, out);
+    let number = read_record_i8(seek(t, a.var), s, start, a.record, out);
     show_i8(number, out);
 }
 
@@ -76,11 +77,11 @@ pub fn show_u8(number: u8, values: &[u8]) {
 
 fn read_u8(t: Tables, s: &[u8], start: u64, a: Ask, out: &mut [u8]) {
     if a.all {
-        let number = read_whole_u8(t, s, start, a.var, out);
+        let number = read_whole_u8(seek(t, a.var), s, start, out);
         show_u8(number, out);
         return;
     }
-    let number = read_record_u8(t, s, start, a.var, a.record, out);
+    let number = read_record_u8(seek(t, a.var), s, start, a.record, out);
     show_u8(number, out);
 }
 
@@ -104,11 +105,11 @@ fn show_i16(number: u8, values: &[i16]) {
 
 fn read_i16(t: Tables, s: &[u8], start: u64, a: Ask, out: &mut [i16]) {
     if a.all {
-        let number = read_whole_i16(t, s, start, a.var, out);
+        let number = read_whole_i16(seek(t, a.var), s, start, out);
         show_i16(number, out);
         return;
     }
-    let number = read_record_i16(t, s, start, a.var, a.record, out);
+    let number = read_record_i16(seek(t, a.var), s, start, a.record, out);
     show_i16(number, out);
 }
 
@@ -132,11 +133,11 @@ fn show_i32(number: u8, values: &[i32]) {
 
 fn read_i32(t: Tables, s: &[u8], start: u64, a: Ask, out: &mut [i32]) {
     if a.all {
-        let number = read_whole_i32(t, s, start, a.var, out);
+        let number = read_whole_i32(seek(t, a.var), s, start, out);
         show_i32(number, out);
         return;
     }
-    let number = read_record_i32(t, s, start, a.var, a.record, out);
+    let number = read_record_i32(seek(t, a.var), s, start, a.record, out);
     show_i32(number, out);
 }
 
@@ -160,11 +161,11 @@ fn show_f32_bits(number: u8, values: &[u32]) {
 
 fn read_f32_bits(t: Tables, s: &[u8], start: u64, a: Ask, out: &mut [u32]) {
     if a.all {
-        let number = read_whole_f32_bits(t, s, start, a.var, out);
+        let number = read_whole_f32_bits(seek(t, a.var), s, start, out);
         show_f32_bits(number, out);
         return;
     }
-    let number = read_record_f32_bits(t, s, start, a.var, a.record, out);
+    let number = read_record_f32_bits(seek(t, a.var), s, start, a.record, out);
     show_f32_bits(number, out);
 }
 
@@ -188,11 +189,11 @@ fn show_f64_bits(number: u8, values: &[u64]) {
 
 fn read_f64_bits(t: Tables, s: &[u8], start: u64, a: Ask, out: &mut [u64]) {
     if a.all {
-        let number = read_whole_f64_bits(t, s, start, a.var, out);
+        let number = read_whole_f64_bits(seek(t, a.var), s, start, out);
         show_f64_bits(number, out);
         return;
     }
-    let number = read_record_f64_bits(t, s, start, a.var, a.record, out);
+    let number = read_record_f64_bits(seek(t, a.var), s, start, a.record, out);
     show_f64_bits(number, out);
 }
 
@@ -216,11 +217,11 @@ fn show_f32(number: u8, values: &[f32]) {
 
 fn read_f32(t: Tables, s: &[u8], start: u64, a: Ask, out: &mut [f32]) {
     if a.all {
-        let number = read_whole_f32(t, s, start, a.var, out);
+        let number = read_whole_f32(seek(t, a.var), s, start, out);
         show_f32(number, out);
         return;
     }
-    let number = read_record_f32(t, s, start, a.var, a.record, out);
+    let number = read_record_f32(seek(t, a.var), s, start, a.record, out);
     show_f32(number, out);
 }
 
@@ -244,11 +245,11 @@ fn show_f64(number: u8, values: &[f64]) {
 
 fn read_f64(t: Tables, s: &[u8], start: u64, a: Ask, out: &mut [f64]) {
     if a.all {
-        let number = read_whole_f64(t, s, start, a.var, out);
+        let number = read_whole_f64(seek(t, a.var), s, start, out);
         show_f64(number, out);
         return;
     }
-    let number = read_record_f64(t, s, start, a.var, a.record, out);
+    let number = read_record_f64(seek(t, a.var), s, start, a.record, out);
     show_f64(number, out);
 }
 

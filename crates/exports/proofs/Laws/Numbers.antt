@@ -1,51 +1,61 @@
--- Laws of an answer that crosses as numbers.
-use mathlib.Core.Path.{_≡_, refl, ap, _∙_}
-use mathlib.Core.List.{List, [], _∷_, _++_}
-use Prim.Native.Nat.{ℕ, _≤_, _<_}
+-- No refusal has the number 0: so an answer of the number 0 gives something.
+use Prim.Native.Nat.{ℕ}
 use native.Mathlib.Omega.{arith}
-use lib.ListN.{length, set, drop}
-use lib.Dec.{leb}
-use borrow.Author.Tests.{le-leb, lt-leb}
-use Rattle.cdf.specs.Step.{Step, got, need, Leaves}
+use mathlib.Core.Path.{_≡_, refl}
+use mathlib.Core.Bool.{Bool, true, false}
+use mathlib.Core.List.{List}
+use lib.Dec.{eqb}
+use borrow.Author.Tests.{eqb-false}
 use Rattle.cdf.specs.Magic.{bothVersions}
-use Rattle.cdf.proofs.Laws.Step.{leaves-stop, leaves-got, by-true, by-false}
+use Rattle.cdf.specs.Step.{Step, got, stop, test, need, into}
+use Rattle.grammar.specs.declared.tables.Tables.{Tables}
 use Rattle.header.specs.Header.{readHeader, afterHeader}
 use Rattle.header.specs.declared.reader.Header.{Header}
-use Rattle.header.proofs.Laws.Header.{after-refused, after-read}
-use Rattle.exports.specs.Numbers.{numbersOf, headerNumbers}
+use Rattle.crossing.specs.Words.{stored, loaded}
+use Rattle.writer.specs.Writes.{writeHeader}
+use Rattle.convert.specs.Convert.{newTables, converted, convert}
 
--- seven stores, one after the other
-abbrev pub stored : Header → List ℕ → List ℕ
-stored h d = set (set (set (set (set (set (set d 0 (h .end)) 1 (h .tables .count)) 2 (h .tables .version)) 3 (h .tables .ndims)) 4 (h .tables .nattrs)) 5 (h .tables .globals)) 6 (h .tables .nvars)
+abbrev pub Numbered : {A : Type 0} → Step A → Type 0
+Numbered (got _ _) = Unit {0}
+Numbered (stop k _) = k ≡ 0 → ⊥
 
-seven : (h : Header) (d : List ℕ) → 7 ≤ length d → stored h d ≡ numbersOf h ++ drop 7 d
-unfolding numbersOf
-seven h [] l = absurd (omega arith)
-seven h (a ∷ []) l = absurd (omega arith)
-seven h (a ∷ b ∷ []) l = absurd (omega arith)
-seven h (a ∷ b ∷ c ∷ []) l = absurd (omega arith)
-seven h (a ∷ b ∷ c ∷ d ∷ []) l = absurd (omega arith)
-seven h (a ∷ b ∷ c ∷ d ∷ e ∷ []) l = absurd (omega arith)
-seven h (a ∷ b ∷ c ∷ d ∷ e ∷ f ∷ []) l = absurd (omega arith)
-seven h (a ∷ b ∷ c ∷ d ∷ e ∷ f ∷ g ∷ r) l = refl
+given-numbered : {A : Type 0} (b : Bool) (k q : ℕ) (rest : Step A) → (b ≡ false → k ≡ 0 → ⊥) → Numbered rest → Numbered (need b k q rest)
+unfolding test
+given-numbered true k q rest n h = h
+given-numbered false k q rest n h = n refl
 
-module _ (s : List ℕ) (size : ℕ) (d : List ℕ) {h : Header} (is : h ≡ readHeader s size bothVersions) where
-  -- what is left of an accepted header
-  crossed : Header → Step (List ℕ)
-  crossed x = need (leb 7 (length d)) 22 0 (got (numbersOf x ++ drop 7 d) 0)
+need-numbered : {A : Type 0} (b : Bool) (k q : ℕ) (rest : Step A) → (k ≡ 0 → ⊥) → Numbered rest → Numbered (need b k q rest)
+need-numbered b k q rest n h = given-numbered b k q rest (λ _. n) h
 
-  moved : afterHeader h crossed ≡ headerNumbers s size d
-  unfolding headerNumbers crossed
-  moved = ap (λ (x : Header). afterHeader x crossed) is
+into-numbered : {A B : Type 0} (g : A → B) (m : Step A) → Numbered m → Numbered (into g m)
+unfolding into
+into-numbered g (got x n) h = tt
+into-numbered g (stop k q) h = h
 
-  pub numbers-refused : (h .number ≡ 0 → ⊥) → Leaves d (headerNumbers s size d) (h .number) d
-  numbers-refused n = leaves-stop d (after-refused h crossed n ∙ moved)
+after-numbered : {A : Type 0} (h : Header) (f : Header → Step A) → Numbered (f h) → Numbered (afterHeader h f)
+after-numbered h f z = given-numbered (eqb (h .number) 0) (h .number) (h .place) (f h) (λ e. eqb-false (h .number) 0 e) z
 
-  module _ (accepted : h .number ≡ 0) where
-    pub numbers-short : length d < 7 → Leaves d (headerNumbers s size d) 22 d
-    unfolding crossed
-    numbers-short l = leaves-stop d (by-false _ (lt-leb 7 (length d) l) refl ∙ after-read h crossed accepted ∙ moved)
+pub stored-numbered : (t : Tables) (out : List ℕ) → Numbered (stored t out)
+unfolding stored
+stored-numbered t out = need-numbered _ 22 0 _ (λ e. omega arith) tt
 
-    pub numbers-got : 7 ≤ length d → Leaves d (headerNumbers s size d) 0 (stored h d)
-    unfolding crossed
-    numbers-got l = leaves-got d (ap (λ (x : List ℕ). got x 0) (seven h d l) ∙ by-true _ (le-leb 7 (length d) l) refl ∙ after-read h crossed accepted ∙ moved)
+pub loaded-numbered : (s : List ℕ) → Numbered (loaded s)
+unfolding loaded
+loaded-numbered s = need-numbered _ 23 0 _ (λ e. omega arith) tt
+
+pub write-numbered : (s : List ℕ) (t : Tables) (out : List ℕ) → Numbered (writeHeader s t out)
+unfolding writeHeader
+write-numbered s t out = need-numbered _ 23 0 _ (λ e. omega arith) (need-numbered _ 22 0 _ (λ e. omega arith) tt)
+
+converted-numbered : (version : ℕ) (s : List ℕ) (h : Header) (out : List ℕ) → Numbered (converted version s h out)
+unfolding converted
+converted-numbered version s h out =
+    need-numbered _ 24 0 _ (λ e. omega arith) (
+    need-numbered _ 25 0 _ (λ e. omega arith) (
+    need-numbered _ 21 0 _ (λ e. omega arith) (
+    need-numbered _ 15 0 _ (λ e. omega arith) (
+    into-numbered _ (writeHeader s (newTables version s h) out) (write-numbered s (newTables version s h) out)))))
+
+pub convert-numbered : (version : ℕ) (s : List ℕ) (size : ℕ) (out : List ℕ) → Numbered (convert version s size out)
+unfolding convert
+convert-numbered version s size out = after-numbered (readHeader s size bothVersions) (λ h. converted version s h out) (converted-numbered version s (readHeader s size bothVersions) out)

@@ -11,8 +11,8 @@ use Rattle.grammar.specs.Tables.{varAt}
 use Rattle.grammar.specs.declared.tables.Tables.{Tables}
 use Rattle.sizes.specs.Records.{isRecord, chunk, chunkBytes, paddedBytes, maxPosition, endOf, endsHold}
 use Rattle.cdf.proofs.Laws.Below.{holds-at}
-use Rattle.reads.specs.Sought.{spread, sought, soughtAs}
-use Rattle.reads.proofs.Laws.Sought.{Holds, tables-parts, typed-came}
+use Rattle.reads.specs.Sought.{spread, sought}
+use Rattle.reads.proofs.Laws.Sought.{Holds, tables-parts}
 use Rattle.cdf.specs.Step.{got}
 use Rattle.cdf.proofs.Laws.Step.{test-came, got-same}
 use Rattle.reads.specs.Inner.Spot.{Bounded}
@@ -51,6 +51,3 @@ found t i e =
     let p = test-came 23 0 e in
     let q = test-came 16 0 (p .1) in
     subst (λ (u : Spread). Bounded u) (sym (got-same (q .1))) (bounded-row t (tables-parts t (p .0)) i (ltb-true _ _ (q .0)))
-
-pub bounded : (code : ℕ) (t : Tables) (i : ℕ) {v : Spread} {n : ℕ} → got v n ≡ soughtAs code t i → Bounded v
-bounded code t i e = typed-came code t i e (λ _ f _. found t i f)

@@ -17,7 +17,7 @@ use Rattle.decode.proofs.Laws.Decoded.{one-byte}
 use Rattle.grammar.specs.declared.tables.Tables.{Tables}
 use Rattle.reads.specs.Reads.{elementAt, bits, holds}
 use Rattle.reads.specs.Inner.Spot.{elementSpot}
-use Rattle.reads.specs.Element.{valueOf, elementOf, ofValue}
+use Rattle.reads.specs.Element.{valueOf, elementWith, elementOf, ofValue}
 use Rattle.reads.specs.declared.variable.Spread.{Spread}
 use Rattle.reads.specs.declared.element.Value.{Value}
 use Rattle.reads.specs.declared.element.Value.the-variants.{Float, Double}
@@ -36,6 +36,9 @@ double-is e f = rw (e, f)
 module _ (s : List ℕ) (at code : ℕ) {d : ℕ} (is : code ≡ d) where
   pub value-is : {x : Value} → x ≡ valueOf d (be (sizeOf d) s at) → x ≡ valueOf code (be (sizeOf code) s at)
   value-is {x} h = subst (λ (k : ℕ). x ≡ valueOf k (be (sizeOf k) s at)) (sym is) h
+
+  pub bits-is : {n : ℕ} → n ≡ be (sizeOf d) s at → n ≡ be (sizeOf code) s at
+  bits-is {n} h = subst (λ (k : ℕ). n ≡ be (sizeOf k) s at) (sym is) h
 
   pub room-is : at + sizeOf code ≤ length s → at + sizeOf d ≤ length s
   room-is h = subst (λ (k : ℕ). at + sizeOf k ≤ length s) is h
@@ -63,23 +66,31 @@ pub value-got : (b code : ℕ) → 1 ≤ code → code ≤ 6 → ofValue (valueO
 value-got b = by-code (λ code. ofValue (valueOf code b) ≡ got (valueOf code b) 0) refl refl refl refl refl refl
 
 module _ (s : List ℕ) (start r e : ℕ) (v : Spread) where
-  -- an element is its place in the window, and then its value
-  pub element-parts : bind (elementSpot v (length s) start r e) (λ _ _. got (valueOf (v .code) (bits v s start r e)) 0) ≡ elementOf s start r e v
-  unfolding elementSpot elementOf
-  element-parts =
+  -- an element is its place in the window, and then what is made of its bits
+  spot-parts : {A : Type 0} (f : ℕ → ℕ → A) → bind (elementSpot v (length s) start r e) (λ _ _. got (f (v .code) (bits v s start r e)) 0) ≡ elementWith f s start r e v
+  unfolding elementSpot
+  spot-parts f =
       bind-need _ _ _ _ _ ∙ test-same _ _ (λ _. bind-need _ _ _ _ _ ∙ test-same _ _ (λ _. bind-need _ _ _ _ _ ∙ test-same _ _ (λ _. bind-got _ _ _)))
 
-  pub element-stop : {k : ℕ} → stop k 0 ≡ elementSpot v (length s) start r e → stop k 0 ≡ elementOf s start r e v
-  element-stop h = by-stop _ h ∙ element-parts
+  pub spot-stop : {A : Type 0} {k : ℕ} (f : ℕ → ℕ → A) → stop k 0 ≡ elementSpot v (length s) start r e → stop k 0 ≡ elementWith f s start r e v
+  spot-stop f h = by-stop _ h ∙ spot-parts f
 
-  module _ {p : ℕ} {x : Value} (spot : got p 0 ≡ elementSpot v (length s) start r e) (width : v .width ≡ sizeOf (v .code)) (low : 1 ≤ v .code) (high : v .code ≤ 6) where
-    pub element-got : x ≡ valueOf (v .code) (be (sizeOf (v .code)) s p) → ofValue x ≡ elementOf s start r e v
-    element-got q =
-        let is : x ≡ valueOf (v .code) (bits v s start r e) =
-        q
-        ∙ ap (λ (n : ℕ). valueOf (v .code) (be n s p)) (sym width)
-        ∙ ap (λ (n : ℕ). valueOf (v .code) (be (v .width) s n)) (spot-is v (length s) start r e spot) in
-        ap ofValue is ∙ value-got (bits v s start r e) (v .code) low high ∙ by-got _ _ spot refl ∙ element-parts
+  pub element-stop : {k : ℕ} → stop k 0 ≡ elementSpot v (length s) start r e → stop k 0 ≡ elementOf s start r e v
+  unfolding elementOf
+  element-stop h = spot-stop valueOf h
+
+  module _ {p : ℕ} (spot : got p 0 ≡ elementSpot v (length s) start r e) (width : v .width ≡ sizeOf (v .code)) where
+    -- the number at the place that was found
+    bits-there : be (sizeOf (v .code)) s p ≡ bits v s start r e
+    bits-there = ap (λ (n : ℕ). be n s p) (sym width) ∙ ap (λ (n : ℕ). be (v .width) s n) (spot-is v (length s) start r e spot)
+
+    pub spot-got : {A : Type 0} {b : ℕ} (f : ℕ → ℕ → A) → b ≡ be (sizeOf (v .code)) s p → got (f (v .code) b) 0 ≡ elementWith f s start r e v
+    spot-got f q = ap (λ (n : ℕ). got (f (v .code) n) 0) (q ∙ bits-there) ∙ by-got _ _ spot refl ∙ spot-parts f
+
+    module _ {x : Value} (low : 1 ≤ v .code) (high : v .code ≤ 6) where
+      pub element-got : x ≡ valueOf (v .code) (be (sizeOf (v .code)) s p) → ofValue x ≡ elementOf s start r e v
+      unfolding elementOf
+      element-got q = ap ofValue q ∙ value-got (be (sizeOf (v .code)) s p) (v .code) low high ∙ spot-got valueOf refl
 
 -- the answer of a read whose variable was found, or not
 module _ (s : List ℕ) (start r e : ℕ) (m : Step Spread) where

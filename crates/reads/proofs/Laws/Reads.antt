@@ -15,7 +15,8 @@ use Rattle.cdf.specs.Step.{got, stop}
 use Rattle.cdf.proofs.Laws.Step.{by-true, by-false}
 use Rattle.bigendian.proofs.Laws.Lists.{row-in}
 use Rattle.decode.proofs.Laws.Room.{every-record}
-use Rattle.reads.specs.Reads.{recordAt, elementAt, holds, wholeBytes}
+use Rattle.reads.specs.Reads.{recordAt, elementAt, holds}
+use Rattle.reads.specs.Kept.{wholeBytes}
 use Rattle.reads.specs.Inner.Spot.{elementSpot}
 use Rattle.reads.specs.declared.variable.Spread.{Spread}
 

@@ -5,11 +5,11 @@ use native.Mathlib.Nat.{le-mul-of-pos-right}
 use mathlib.Core.Path.{_≡_, refl, sym, ap, _∙_}
 use mathlib.Core.Bool.{Bool, true, false, cond}
 use lib.Dec.{leb}
-use borrow.Author.Tests.{lt-leb, le-leb, leb-true, lt-ltb, le-ltb, eq-eqb, ne-eqb, eqb-true}
+use borrow.Author.Tests.{lt-leb, le-leb, leb-true, lt-ltb, le-ltb, eqb-true}
 use Rattle.cdf.specs.Below.{allBelow}
 use Rattle.cdf.specs.Step.{got, stop}
 use Rattle.cdf.proofs.Laws.Below.{both, all-hold, one-fails, holds-at}
-use Rattle.cdf.proofs.Laws.Step.{by-true, by-false, by-got, by-stop, bind-came, test-came, got-same}
+use Rattle.cdf.proofs.Laws.Step.{by-true, by-false, bind-came, test-came, got-same}
 use Rattle.items.specs.Types.{sizeOf}
 use Rattle.grammar.specs.Tables.{varAt}
 use Rattle.grammar.specs.Inner.Within.{Shaped, RowShaped}
@@ -129,19 +129,6 @@ module _ (t : Tables) (i : ℕ) where
     pub sought-got : {v : Spread} → i < t .nvars → v ≡ spread t (varAt t i) → got v 0 ≡ sought t i
     unfolding sought
     sought-got h e = by-true _ hold (by-true _ (lt-ltb i (t .nvars) h) (ap (λ (v : Spread). got v 0) e))
-
-  module _ (code : ℕ) {v : Spread} (found : got v 0 ≡ sought t i) where
-    pub typed-other : (v .code ≡ code → ⊥) → stop 17 0 ≡ soughtAs code t i
-    unfolding soughtAs
-    typed-other n = by-got _ _ found (by-false _ (ne-eqb (v .code) code n) refl)
-
-    pub typed-got : v .code ≡ code → got v 0 ≡ soughtAs code t i
-    unfolding soughtAs
-    typed-got e = by-got _ _ found (by-true _ (eq-eqb (v .code) code e) refl)
-
-  pub typed-stop : {k : ℕ} (code : ℕ) → stop k 0 ≡ sought t i → stop k 0 ≡ soughtAs code t i
-  unfolding soughtAs
-  typed-stop code e = by-stop _ e
 
 -- the variable of a typed read is the one that is sought, and has the type
 pub typed-came : (code : ℕ) (t : Tables) (i : ℕ) {v : Spread} {m : ℕ} → got v m ≡ soughtAs code t i → {Q : Type 0} → ((n : ℕ) → got v n ≡ sought t i → v .code ≡ code → Q) → Q

@@ -10,15 +10,8 @@ use Rattle.grammar.specs.Tables.{maxRank}
 use Rattle.grammar.specs.declared.tables.Var.{Var}
 use Rattle.reads.specs.Reads.{elementAt, holds}
 use Rattle.reads.specs.declared.variable.Spread.{Spread}
-use Rattle.reads.specs.declared.variable.Sought.{Sought}
-use Rattle.reads.specs.declared.variable.Sought.the-variants.{Got, Refused as Denied}
 use Rattle.reads.specs.declared.place.Spot.{Spot}
 use Rattle.reads.specs.declared.place.Spot.the-variants.{At, Refused}
-
--- what the answer of the function that finds a variable means
-abbrev pub ofSought : Sought → Step Spread
-ofSought (Got v) = got v 0
-ofSought (Denied k) = stop k 0
 
 -- the part of a row that is tested by itself
 abbrev pub rowHolds : Var → Bool

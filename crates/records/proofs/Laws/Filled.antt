@@ -18,20 +18,18 @@ use Rattle.bigendian.specs.Lists.{tab, grid}
 use Rattle.decode.specs.Inner.Chunks.{ofRecord}
 use Rattle.bigendian.proofs.Laws.Lists.{grid-ext, row-in}
 use Rattle.decode.proofs.Laws.Room.{every-record}
-use Rattle.grammar.specs.declared.tables.Tables.{Tables}
-use Rattle.reads.specs.Sought.{soughtAs}
-use Rattle.reads.specs.Reads.{recordAt, elementAt, bits, holds, wholeBytes, recordRead, wholeRead}
+use Rattle.reads.specs.Kept.{wholeBytes, keptAs}
+use Rattle.reads.specs.Reads.{recordAt, elementAt, bits, holds, recordFrom, wholeFrom}
 use Rattle.reads.specs.Inner.Spot.{Bounded}
-use Rattle.records.specs.Inner.Stretch.{recordStretch, wholeStretch, recordOf, wholeOf, filled}
+use Rattle.records.specs.Inner.Stretch.{recordStretch, wholeStretch, recordPlaced, wholePlaced, filled}
 use Rattle.reads.specs.declared.variable.Spread.{Spread}
 use Rattle.records.specs.declared.stretch.Stretch.{Stretch}
-use Rattle.reads.proofs.Laws.Sought.{typed-came}
 use Rattle.reads.proofs.Laws.Reads.{held}
-use Rattle.reads.proofs.Laws.Bounded.{bounded}
+use Rattle.reads.proofs.Laws.Kept.{as-came}
 
 -- ---- the type that was asked for
-typed-width : (code : ℕ) (t : Tables) (i : ℕ) {v : Spread} {n : ℕ} → got v n ≡ soughtAs code t i → v .width ≡ sizeOf code
-typed-width code t i e = typed-came code t i e (λ _ _ is. bounded code t i e .size ∙ ap (λ (c : ℕ). sizeOf c) is)
+typed-width : (code : ℕ) (found : Step Spread) {v : Spread} {n : ℕ} → got v n ≡ keptAs code found → v .width ≡ sizeOf code
+typed-width code found e = let k = as-came found code e in k .0 .size ∙ ap (λ (c : ℕ). sizeOf c) (k .1)
 
 -- ---- the values of a part of the window, in the window's own places
 module _ {A : Type 0} (F : ℕ → A) (w : ℕ) (s : List ℕ) where
@@ -95,14 +93,14 @@ module _ (v : Spread) (w : ℕ) (width : v .width ≡ w) (have start room : ℕ)
       subst (λ (x : Stretch). Fits w have room x) (sym (got-same (c .1)))
       (record { inside = omega arith; roomy = leb-true _ _ (c .0); each = every-record (v .records) (v .step) (w * v .chunk) _ last }))
 
-module _ (code : ℕ) (t : Tables) (have start i room : ℕ) where
-  pub record-of-fits : (r : ℕ) {x : Stretch} {n : ℕ} → got x n ≡ recordOf code t have start i r room → Fits (sizeOf code) have room x
-  unfolding recordOf
-  record-of-fits r {x} e = bind-came (soughtAs code t i) _ e _ (λ v m f g. record-fits v _ (typed-width code t i f) have start room r g)
+module _ (code : ℕ) (found : Step Spread) (have start room : ℕ) where
+  pub record-of-fits : (r : ℕ) {x : Stretch} {n : ℕ} → got x n ≡ recordPlaced code found have start r room → Fits (sizeOf code) have room x
+  unfolding recordPlaced
+  record-of-fits r {x} e = bind-came (keptAs code found) _ e _ (λ v m f g. record-fits v _ (typed-width code found f) have start room r g)
 
-  pub whole-of-fits : {x : Stretch} {n : ℕ} → got x n ≡ wholeOf code t have start i room → Fits (sizeOf code) have room x
-  unfolding wholeOf
-  whole-of-fits {x} e = bind-came (soughtAs code t i) _ e _ (λ v m f g. whole-fits v _ (typed-width code t i f) have start room g)
+  pub whole-of-fits : {x : Stretch} {n : ℕ} → got x n ≡ wholePlaced code found have start room → Fits (sizeOf code) have room x
+  unfolding wholePlaced
+  whole-of-fits {x} e = bind-came (keptAs code found) _ e _ (λ v m f g. whole-fits v _ (typed-width code found f) have start room g)
 
 -- ---- the output
 module _ {A : Type 0} (F : ℕ → A) (s : List ℕ) (start : ℕ) (out : List A) (v : Spread) (w : ℕ) (width : v .width ≡ w) where
@@ -154,23 +152,23 @@ module _ {A : Type 0} (F : ℕ → A) (s : List ℕ) (start : ℕ) (out : List A
       ∙ test-same (leb (v .records * v .chunk) (length out)) (stop 22 0) (λ _. ap (λ (l : List A). got (l ++ drop (v .records * v .chunk) out) 0) (whole-list h)))
 
 -- ---- the reads
-module _ {A : Type 0} (F : ℕ → A) (code : ℕ) (t : Tables) (s : List ℕ) (start i : ℕ) (out : List A) where
-  record-is : (r : ℕ) → filled F (sizeOf code) s out (recordOf code t (length s) start i r (length out)) ≡ recordRead F code t s start i r out
-  unfolding filled recordOf recordRead recordStretch bind
+module _ {A : Type 0} (F : ℕ → A) (code : ℕ) (found : Step Spread) (s : List ℕ) (start : ℕ) (out : List A) where
+  record-is : (r : ℕ) → filled F (sizeOf code) s out (recordPlaced code found (length s) start r (length out)) ≡ recordFrom F code found s start r out
+  unfolding filled recordPlaced recordFrom recordStretch bind
   record-is r =
-      bind-bind (soughtAs code t i) _ _
-      ∙ bind-same (soughtAs code t i) _ _ (λ v n e.
+      bind-bind (keptAs code found) _ _
+      ∙ bind-same (keptAs code found) _ _ (λ v n e.
       bind-test (ltb r (v .records)) _ _ _
       ∙ test-same (ltb r (v .records)) (stop 18 0) (λ _.
       bind-test (holds (length s) start (recordAt v r) (v .chunk * v .width)) _ _ _
       ∙ test-same _ (stop 20 0) (λ h.
-      bind-test (leb (v .chunk) (length out)) _ _ _ ∙ test-same _ (stop 22 0) (λ _. ap (λ (l : List A). got l 0) (record-list F s start out v _ (typed-width code t i e) r h)))))
+      bind-test (leb (v .chunk) (length out)) _ _ _ ∙ test-same _ (stop 22 0) (λ _. ap (λ (l : List A). got l 0) (record-list F s start out v _ (typed-width code found e) r h)))))
 
-  whole-is : filled F (sizeOf code) s out (wholeOf code t (length s) start i (length out)) ≡ wholeRead F code t s start i out
-  unfolding filled wholeOf wholeRead wholeStretch
+  whole-is : filled F (sizeOf code) s out (wholePlaced code found (length s) start (length out)) ≡ wholeFrom F code found s start out
+  unfolding filled wholePlaced wholeFrom wholeStretch
   whole-is =
-      bind-bind (soughtAs code t i) _ _
-      ∙ bind-same (soughtAs code t i) _ _ (λ v n e. whole-step F s start out v _ (typed-width code t i e) (eqb (v .records) 0) refl)
+      bind-bind (keptAs code found) _ _
+      ∙ bind-same (keptAs code found) _ _ (λ v n e. whole-step F s start out v _ (typed-width code found e) (eqb (v .records) 0) refl)
 
   -- the number and the output, by the stretch that was placed or by the refusal
   module _ (m : Step Stretch) (w : ℕ) where
@@ -184,18 +182,18 @@ module _ {A : Type 0} (F : ℕ → A) (code : ℕ) (t : Tables) (s : List ℕ) (
     unfolding filled bind
     filled-got e q = (ap (λ n. numberOf (filled F w s out n)) e, q ∙ ap (λ n. givenOr out (filled F w s out n)) e)
 
-  pub record-stop : {k : ℕ} (r : ℕ) → stop k 0 ≡ recordOf code t (length s) start i r (length out) → (k ≡ numberOf (recordRead F code t s start i r out)) × (out ≡ givenOr out (recordRead F code t s start i r out))
+  pub record-stop : {k : ℕ} (r : ℕ) → stop k 0 ≡ recordPlaced code found (length s) start r (length out) → (k ≡ numberOf (recordFrom F code found s start r out)) × (out ≡ givenOr out (recordFrom F code found s start r out))
   record-stop {k} r e = subst (λ (y : Step (List A)). (k ≡ numberOf y) × (out ≡ givenOr out y)) (record-is r) (filled-stop _ _ e)
 
-  pub record-got : {x : Stretch} {new : List A} (r : ℕ) → got x 0 ≡ recordOf code t (length s) start i r (length out)
+  pub record-got : {x : Stretch} {new : List A} (r : ℕ) → got x 0 ≡ recordPlaced code found (length s) start r (length out)
       → new ≡ grid (ofRecord F (sizeOf code) (take (length s - x .at) (drop (x .at) s)) (x .stride)) (x .chunk) (x .count) ++ drop (x .count * x .chunk) out
-      → (0 ≡ numberOf (recordRead F code t s start i r out)) × (new ≡ givenOr out (recordRead F code t s start i r out))
+      → (0 ≡ numberOf (recordFrom F code found s start r out)) × (new ≡ givenOr out (recordFrom F code found s start r out))
   record-got {new = new} r e q = subst (λ (y : Step (List A)). (0 ≡ numberOf y) × (new ≡ givenOr out y)) (record-is r) (filled-got _ _ e q)
 
-  pub whole-stop : {k : ℕ} → stop k 0 ≡ wholeOf code t (length s) start i (length out) → (k ≡ numberOf (wholeRead F code t s start i out)) × (out ≡ givenOr out (wholeRead F code t s start i out))
+  pub whole-stop : {k : ℕ} → stop k 0 ≡ wholePlaced code found (length s) start (length out) → (k ≡ numberOf (wholeFrom F code found s start out)) × (out ≡ givenOr out (wholeFrom F code found s start out))
   whole-stop {k} e = subst (λ (y : Step (List A)). (k ≡ numberOf y) × (out ≡ givenOr out y)) whole-is (filled-stop _ _ e)
 
-  pub whole-got : {x : Stretch} {new : List A} → got x 0 ≡ wholeOf code t (length s) start i (length out)
+  pub whole-got : {x : Stretch} {new : List A} → got x 0 ≡ wholePlaced code found (length s) start (length out)
       → new ≡ grid (ofRecord F (sizeOf code) (take (length s - x .at) (drop (x .at) s)) (x .stride)) (x .chunk) (x .count) ++ drop (x .count * x .chunk) out
-      → (0 ≡ numberOf (wholeRead F code t s start i out)) × (new ≡ givenOr out (wholeRead F code t s start i out))
+      → (0 ≡ numberOf (wholeFrom F code found s start out)) × (new ≡ givenOr out (wholeFrom F code found s start out))
   whole-got {new = new} e q = subst (λ (y : Step (List A)). (0 ≡ numberOf y) × (new ≡ givenOr out y)) whole-is (filled-got _ _ e q)

@@ -7,7 +7,8 @@ use lib.Dec.{leb}
 use borrow.Author.Tests.{lt-ltb, le-ltb, le-leb, lt-leb, eq-eqb, ne-eqb}
 use Rattle.cdf.specs.Step.{got, stop}
 use Rattle.cdf.proofs.Laws.Step.{by-true, by-false}
-use Rattle.reads.specs.Reads.{recordAt, holds, wholeBytes}
+use Rattle.reads.specs.Kept.{wholeBytes}
+use Rattle.reads.specs.Reads.{recordAt, holds}
 use Rattle.reads.specs.Inner.Spot.{Bounded}
 use Rattle.reads.specs.declared.variable.Spread.{Spread}
 use Rattle.records.specs.Inner.Stretch.{recordStretch, wholeStretch}

@@ -6,9 +6,8 @@ use lib.Dec.{ltb, leb, eqb}
 use Rattle.bigendian.specs.Lists.{grid}
 use Rattle.cdf.specs.Step.{Step, got, stop, bind, test, need}
 use Rattle.decode.specs.Inner.Chunks.{ofRecord}
-use Rattle.grammar.specs.declared.tables.Tables.{Tables}
-use Rattle.reads.specs.Sought.{soughtAs}
-use Rattle.reads.specs.Reads.{recordAt, holds, wholeBytes}
+use Rattle.reads.specs.Kept.{wholeBytes, keptAs}
+use Rattle.reads.specs.Reads.{recordAt, holds}
 use Rattle.reads.specs.declared.variable.Spread.{Spread}
 use Rattle.records.specs.declared.stretch.Stretch.{Stretch}
 use Rattle.records.specs.declared.stretch.Stretched.{Stretched}
@@ -36,13 +35,13 @@ wholeStretch v have start room =
     need (leb (v .records * v .chunk) room) 22 0 (
     got (record { at = v .begin - start; count = v .records; chunk = v .chunk; stride = v .step }) 0)))
 
--- the chunk of a record of the i-th variable, of the type `code`
-unfoldable pub recordOf : ℕ → Tables → ℕ → ℕ → ℕ → ℕ → ℕ → Step Stretch
-recordOf code t have start i r room = bind (soughtAs code t i) (λ v _. recordStretch v have start r room)
+-- the chunk of a record of what was found, of the type `code`
+unfoldable pub recordPlaced : ℕ → Step Spread → ℕ → ℕ → ℕ → ℕ → Step Stretch
+recordPlaced code found have start r room = bind (keptAs code found) (λ v _. recordStretch v have start r room)
 
--- all records of the i-th variable, of the type `code`
-unfoldable pub wholeOf : ℕ → Tables → ℕ → ℕ → ℕ → ℕ → Step Stretch
-wholeOf code t have start i room = bind (soughtAs code t i) (λ v _. wholeStretch v have start room)
+-- all records of what was found, of the type `code`
+unfoldable pub wholePlaced : ℕ → Step Spread → ℕ → ℕ → ℕ → Step Stretch
+wholePlaced code found have start room = bind (keptAs code found) (λ v _. wholeStretch v have start room)
 
 -- the output that a stretch is decoded into, from the part `&s[at..]` of the window
 unfoldable pub filled : {A : Type 0} → (ℕ → A) → ℕ → List ℕ → List A → Step Stretch → Step (List A)

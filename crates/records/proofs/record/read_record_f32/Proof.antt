@@ -18,25 +18,25 @@ enum-known-x : tie.Need-enum-known-x
 enum-known-x c = search needs
 
 sub-records-f32 : tie.Need-sub-records-f32
-sub-records-f32 c = let h = record-of-fits 5 _ _ _ _ _ _ (ap ofStretched (sym (c .before .x .given .1)) ∙ c .before .before .before .record-of .ensures) in h .inside
+sub-records-f32 c = let h = record-of-fits 5 _ _ _ _ _ (ap ofStretched (sym (c .before .x .given .1)) ∙ c .before .before .before .record-of .ensures) in h .inside
 
 part-records-f32-start : tie.Need-part-records-f32-start
-part-records-f32-start c = let h = record-of-fits 5 _ _ _ _ _ _ (ap ofStretched (sym (c .before .x .given .1)) ∙ c .before .before .before .record-of .ensures) in omega (arith, h .inside)
+part-records-f32-start c = let h = record-of-fits 5 _ _ _ _ _ (ap ofStretched (sym (c .before .x .given .1)) ∙ c .before .before .before .record-of .ensures) in omega (arith, h .inside)
 
 part-records-f32-end : tie.Need-part-records-f32-end
 part-records-f32-end c = search needs
 
 records-f32-requires : tie.Need-records-f32-requires
-records-f32-requires c κs = decoder-asks (now (c .before .before .before .before .before .before .before .before .args .s)) (record-of-fits 5 _ _ _ _ _ _ (ap ofStretched (sym (c .before .before .before .x .given .1)) ∙ c .before .before .before .before .before .record-of .ensures))
+records-f32-requires c κs = decoder-asks (now (c .before .before .before .before .before .before .before .before .args .s)) (record-of-fits 5 _ _ _ _ _ (ap ofStretched (sym (c .before .before .before .x .given .1)) ∙ c .before .before .before .before .before .record-of .ensures))
 
 returns : tie.Need-returns
-returns c = record-stop float 5 _ _ _ _ _ _ (ap ofStretched (sym (c .before .k .given .1)) ∙ c .before .before .before .record-of .ensures)
+returns c = record-stop float 5 _ _ _ _ _ (ap ofStretched (sym (c .before .k .given .1)) ∙ c .before .before .before .record-of .ensures)
 
 same-length : tie.Need-same-length
 same-length c = search needs
 
 returns-2 : tie.Need-returns-2
-returns-2 c = record-got float 5 _ _ _ _ _ _ (ap ofStretched (sym (c .before .before .before .before .before .before .x .given .1)) ∙ c .before .before .before .before .before .before .before .before .record-of .ensures) (c .before .before .records-f32 .ensures)
+returns-2 c = record-got float 5 _ _ _ _ _ (ap ofStretched (sym (c .before .before .before .before .before .before .x .given .1)) ∙ c .before .before .before .before .before .before .before .before .record-of .ensures) (c .before .before .records-f32 .ensures)
 
 pub read-record-f32-spec : {M : Type 1} → statement M
 read-record-f32-spec =

@@ -18,25 +18,25 @@ enum-known-x : tie.Need-enum-known-x
 enum-known-x c = search needs
 
 sub-records-f64 : tie.Need-sub-records-f64
-sub-records-f64 c = let h = record-of-fits 6 _ _ _ _ _ _ (ap ofStretched (sym (c .before .x .given .1)) ∙ c .before .before .before .record-of .ensures) in h .inside
+sub-records-f64 c = let h = record-of-fits 6 _ _ _ _ _ (ap ofStretched (sym (c .before .x .given .1)) ∙ c .before .before .before .record-of .ensures) in h .inside
 
 part-records-f64-start : tie.Need-part-records-f64-start
-part-records-f64-start c = let h = record-of-fits 6 _ _ _ _ _ _ (ap ofStretched (sym (c .before .x .given .1)) ∙ c .before .before .before .record-of .ensures) in omega (arith, h .inside)
+part-records-f64-start c = let h = record-of-fits 6 _ _ _ _ _ (ap ofStretched (sym (c .before .x .given .1)) ∙ c .before .before .before .record-of .ensures) in omega (arith, h .inside)
 
 part-records-f64-end : tie.Need-part-records-f64-end
 part-records-f64-end c = search needs
 
 records-f64-requires : tie.Need-records-f64-requires
-records-f64-requires c κs = decoder-asks (now (c .before .before .before .before .before .before .before .before .args .s)) (record-of-fits 6 _ _ _ _ _ _ (ap ofStretched (sym (c .before .before .before .x .given .1)) ∙ c .before .before .before .before .before .record-of .ensures))
+records-f64-requires c κs = decoder-asks (now (c .before .before .before .before .before .before .before .before .args .s)) (record-of-fits 6 _ _ _ _ _ (ap ofStretched (sym (c .before .before .before .x .given .1)) ∙ c .before .before .before .before .before .record-of .ensures))
 
 returns : tie.Need-returns
-returns c = record-stop double 6 _ _ _ _ _ _ (ap ofStretched (sym (c .before .k .given .1)) ∙ c .before .before .before .record-of .ensures)
+returns c = record-stop double 6 _ _ _ _ _ (ap ofStretched (sym (c .before .k .given .1)) ∙ c .before .before .before .record-of .ensures)
 
 same-length : tie.Need-same-length
 same-length c = search needs
 
 returns-2 : tie.Need-returns-2
-returns-2 c = record-got double 6 _ _ _ _ _ _ (ap ofStretched (sym (c .before .before .before .before .before .before .x .given .1)) ∙ c .before .before .before .before .before .before .before .before .record-of .ensures) (c .before .before .records-f64 .ensures)
+returns-2 c = record-got double 6 _ _ _ _ _ (ap ofStretched (sym (c .before .before .before .before .before .before .x .given .1)) ∙ c .before .before .before .before .before .before .before .before .record-of .ensures) (c .before .before .records-f64 .ensures)
 
 pub read-record-f64-spec : {M : Type 1} → statement M
 read-record-f64-spec =

@@ -1,14 +1,14 @@
 use borrow.Author.Needs.{needs}
 use mathlib.Core.Path.{sym, ap, _∙_}
 use Rattle.cdf.proofs.Laws.Step.{by-got, by-stop}
-use Rattle.reads.specs.Inner.Spot.{ofSought}
-use Rattle.records.specs.Inner.Stretch.{wholeOf}
-use Rattle.reads.proofs.Laws.Bounded.{bounded}
+use Rattle.reads.specs.Sought.{ofSought}
+use Rattle.records.specs.Inner.Stretch.{wholePlaced}
+use Rattle.reads.proofs.Laws.Kept.{as-came}
 use Rattle.records.proofs.stretch.whole_of.Statement.{statement}
 use Rattle.records.proofs.stretch.whole_of.Tie as tie
 
-seek-as-requires : tie.Need-seek-as-requires
-seek-as-requires c κs = search needs
+kept-as-requires : tie.Need-kept-as-requires
+kept-as-requires c κs = search needs
 
 enum-known-k : tie.Need-enum-known-k
 enum-known-k c = search needs
@@ -17,17 +17,17 @@ enum-known-v : tie.Need-enum-known-v
 enum-known-v c = search needs
 
 whole-stretch-requires : tie.Need-whole-stretch-requires
-whole-stretch-requires c κs = bounded _ _ _ (ap ofSought (sym (c .before .v .given .1)) ∙ c .before .before .before .seek-as .ensures)
+whole-stretch-requires c κs = as-came _ _ (ap ofSought (sym (c .before .v .given .1)) ∙ c .before .before .before .kept-as .ensures) .0
 
 returns : tie.Need-returns
-unfolding wholeOf
-returns c = by-stop _ (ap ofSought (sym (c .before .k .given .1)) ∙ c .before .before .before .seek-as .ensures)
+unfolding wholePlaced
+returns c = by-stop _ (ap ofSought (sym (c .before .k .given .1)) ∙ c .before .before .before .kept-as .ensures)
 
 returns-2 : tie.Need-returns-2
-unfolding wholeOf
-returns-2 c = by-got _ _ (ap ofSought (sym (c .before .before .v .given .1)) ∙ c .before .before .before .before .seek-as .ensures) (c .whole-stretch .ensures)
+unfolding wholePlaced
+returns-2 c = by-got _ _ (ap ofSought (sym (c .before .before .v .given .1)) ∙ c .before .before .before .before .kept-as .ensures) (c .whole-stretch .ensures)
 
 pub whole-of-spec : {M : Type 1} → statement M
 whole-of-spec =
     tie.close
-    (tie.spec seek-as-requires enum-known-k enum-known-v whole-stretch-requires returns returns-2)
+    (tie.spec kept-as-requires enum-known-k enum-known-v whole-stretch-requires returns returns-2)

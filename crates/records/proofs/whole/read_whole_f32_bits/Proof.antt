@@ -18,25 +18,25 @@ enum-known-x : tie.Need-enum-known-x
 enum-known-x c = search needs
 
 sub-records-u32 : tie.Need-sub-records-u32
-sub-records-u32 c = let h = whole-of-fits 5 _ _ _ _ _ (ap ofStretched (sym (c .before .x .given .1)) ∙ c .before .before .before .whole-of .ensures) in h .inside
+sub-records-u32 c = let h = whole-of-fits 5 _ _ _ _ (ap ofStretched (sym (c .before .x .given .1)) ∙ c .before .before .before .whole-of .ensures) in h .inside
 
 part-records-u32-start : tie.Need-part-records-u32-start
-part-records-u32-start c = let h = whole-of-fits 5 _ _ _ _ _ (ap ofStretched (sym (c .before .x .given .1)) ∙ c .before .before .before .whole-of .ensures) in omega (arith, h .inside)
+part-records-u32-start c = let h = whole-of-fits 5 _ _ _ _ (ap ofStretched (sym (c .before .x .given .1)) ∙ c .before .before .before .whole-of .ensures) in omega (arith, h .inside)
 
 part-records-u32-end : tie.Need-part-records-u32-end
 part-records-u32-end c = search needs
 
 records-u32-requires : tie.Need-records-u32-requires
-records-u32-requires c κs = decoder-asks (now (c .before .before .before .before .before .before .before .before .args .s)) (whole-of-fits 5 _ _ _ _ _ (ap ofStretched (sym (c .before .before .before .x .given .1)) ∙ c .before .before .before .before .before .whole-of .ensures))
+records-u32-requires c κs = decoder-asks (now (c .before .before .before .before .before .before .before .before .args .s)) (whole-of-fits 5 _ _ _ _ (ap ofStretched (sym (c .before .before .before .x .given .1)) ∙ c .before .before .before .before .before .whole-of .ensures))
 
 returns : tie.Need-returns
-returns c = whole-stop raw 5 _ _ _ _ _ (ap ofStretched (sym (c .before .k .given .1)) ∙ c .before .before .before .whole-of .ensures)
+returns c = whole-stop raw 5 _ _ _ _ (ap ofStretched (sym (c .before .k .given .1)) ∙ c .before .before .before .whole-of .ensures)
 
 same-length : tie.Need-same-length
 same-length c = search needs
 
 returns-2 : tie.Need-returns-2
-returns-2 c = whole-got raw 5 _ _ _ _ _ (ap ofStretched (sym (c .before .before .before .before .before .before .x .given .1)) ∙ c .before .before .before .before .before .before .before .before .whole-of .ensures) (c .before .before .records-u32 .ensures)
+returns-2 c = whole-got raw 5 _ _ _ _ (ap ofStretched (sym (c .before .before .before .before .before .before .x .given .1)) ∙ c .before .before .before .before .before .before .before .before .whole-of .ensures) (c .before .before .records-u32 .ensures)
 
 pub read-whole-f32-bits-spec : {M : Type 1} → statement M
 read-whole-f32-bits-spec =

@@ -18,25 +18,25 @@ enum-known-x : tie.Need-enum-known-x
 enum-known-x c = search needs
 
 sub-records-u64 : tie.Need-sub-records-u64
-sub-records-u64 c = let h = whole-of-fits 6 _ _ _ _ _ (ap ofStretched (sym (c .before .x .given .1)) ∙ c .before .before .before .whole-of .ensures) in h .inside
+sub-records-u64 c = let h = whole-of-fits 6 _ _ _ _ (ap ofStretched (sym (c .before .x .given .1)) ∙ c .before .before .before .whole-of .ensures) in h .inside
 
 part-records-u64-start : tie.Need-part-records-u64-start
-part-records-u64-start c = let h = whole-of-fits 6 _ _ _ _ _ (ap ofStretched (sym (c .before .x .given .1)) ∙ c .before .before .before .whole-of .ensures) in omega (arith, h .inside)
+part-records-u64-start c = let h = whole-of-fits 6 _ _ _ _ (ap ofStretched (sym (c .before .x .given .1)) ∙ c .before .before .before .whole-of .ensures) in omega (arith, h .inside)
 
 part-records-u64-end : tie.Need-part-records-u64-end
 part-records-u64-end c = search needs
 
 records-u64-requires : tie.Need-records-u64-requires
-records-u64-requires c κs = decoder-asks (now (c .before .before .before .before .before .before .before .before .args .s)) (whole-of-fits 6 _ _ _ _ _ (ap ofStretched (sym (c .before .before .before .x .given .1)) ∙ c .before .before .before .before .before .whole-of .ensures))
+records-u64-requires c κs = decoder-asks (now (c .before .before .before .before .before .before .before .before .args .s)) (whole-of-fits 6 _ _ _ _ (ap ofStretched (sym (c .before .before .before .x .given .1)) ∙ c .before .before .before .before .before .whole-of .ensures))
 
 returns : tie.Need-returns
-returns c = whole-stop raw 6 _ _ _ _ _ (ap ofStretched (sym (c .before .k .given .1)) ∙ c .before .before .before .whole-of .ensures)
+returns c = whole-stop raw 6 _ _ _ _ (ap ofStretched (sym (c .before .k .given .1)) ∙ c .before .before .before .whole-of .ensures)
 
 same-length : tie.Need-same-length
 same-length c = search needs
 
 returns-2 : tie.Need-returns-2
-returns-2 c = whole-got raw 6 _ _ _ _ _ (ap ofStretched (sym (c .before .before .before .before .before .before .x .given .1)) ∙ c .before .before .before .before .before .before .before .before .whole-of .ensures) (c .before .before .records-u64 .ensures)
+returns-2 c = whole-got raw 6 _ _ _ _ (ap ofStretched (sym (c .before .before .before .before .before .before .x .given .1)) ∙ c .before .before .before .before .before .before .before .before .whole-of .ensures) (c .before .before .records-u64 .ensures)
 
 pub read-whole-f64-bits-spec : {M : Type 1} → statement M
 read-whole-f64-bits-spec =

@@ -18,25 +18,25 @@ enum-known-x : tie.Need-enum-known-x
 enum-known-x c = search needs
 
 sub-records-u8 : tie.Need-sub-records-u8
-sub-records-u8 c = let h = whole-of-fits 2 _ _ _ _ _ (ap ofStretched (sym (c .before .x .given .1)) ∙ c .before .before .before .whole-of .ensures) in h .inside
+sub-records-u8 c = let h = whole-of-fits 2 _ _ _ _ (ap ofStretched (sym (c .before .x .given .1)) ∙ c .before .before .before .whole-of .ensures) in h .inside
 
 part-records-u8-start : tie.Need-part-records-u8-start
-part-records-u8-start c = let h = whole-of-fits 2 _ _ _ _ _ (ap ofStretched (sym (c .before .x .given .1)) ∙ c .before .before .before .whole-of .ensures) in omega (arith, h .inside)
+part-records-u8-start c = let h = whole-of-fits 2 _ _ _ _ (ap ofStretched (sym (c .before .x .given .1)) ∙ c .before .before .before .whole-of .ensures) in omega (arith, h .inside)
 
 part-records-u8-end : tie.Need-part-records-u8-end
 part-records-u8-end c = search needs
 
 records-u8-requires : tie.Need-records-u8-requires
-records-u8-requires c κs = byte-decoder-asks (now (c .before .before .before .before .before .before .before .before .args .s)) (whole-of-fits 2 _ _ _ _ _ (ap ofStretched (sym (c .before .before .before .x .given .1)) ∙ c .before .before .before .before .before .whole-of .ensures))
+records-u8-requires c κs = byte-decoder-asks (now (c .before .before .before .before .before .before .before .before .args .s)) (whole-of-fits 2 _ _ _ _ (ap ofStretched (sym (c .before .before .before .x .given .1)) ∙ c .before .before .before .before .before .whole-of .ensures))
 
 returns : tie.Need-returns
-returns c = whole-stop raw 2 _ _ _ _ _ (ap ofStretched (sym (c .before .k .given .1)) ∙ c .before .before .before .whole-of .ensures)
+returns c = whole-stop raw 2 _ _ _ _ (ap ofStretched (sym (c .before .k .given .1)) ∙ c .before .before .before .whole-of .ensures)
 
 same-length : tie.Need-same-length
 same-length c = search needs
 
 returns-2 : tie.Need-returns-2
-returns-2 c = whole-got raw 2 _ _ _ _ _ (ap ofStretched (sym (c .before .before .before .before .before .before .x .given .1)) ∙ c .before .before .before .before .before .before .before .before .whole-of .ensures) (c .before .before .records-u8 .ensures)
+returns-2 c = whole-got raw 2 _ _ _ _ (ap ofStretched (sym (c .before .before .before .before .before .before .x .given .1)) ∙ c .before .before .before .before .before .before .before .before .whole-of .ensures) (c .before .before .records-u8 .ensures)
 
 pub read-whole-u8-spec : {M : Type 1} → statement M
 read-whole-u8-spec =

@@ -1,0 +1,2 @@
+-- Laws, and the proofs of the functions.
+pub mod Laws

@@ -1,0 +1,3 @@
+-- Tables as numbers.
+pub mod Words
+pub mod Inner

@@ -1,2 +1,0 @@
--- Laws of what the exported reads of values answer.
-pub mod OfFile

@@ -1,2 +1,0 @@
--- What the exported reads of values answer.
-pub mod OfFile
