@@ -555,6 +555,20 @@ def files_converted(play):
                         play.converts(target, 84, size=size)
 
 
+def values_converted(play):
+    """Files with values in the other version, and back: the new header before the old bytes from the old header's end. Every value is what it was."""
+    for data, values in files():
+        for version in (2, 1):
+            end = model.read_header(data, len(data))[3]
+            play.file(data)
+            n = play.converts(version, len(data) + 64)
+            new = model.convert(data, len(data), version, bytes(len(data) + 64))[4][:n] + data[end:]
+            if not play.file(new):
+                sys.exit(f"replay: the model refuses {new.hex()}, made of {data.hex()}")
+            all_values(play, values)
+            data = new
+
+
 def replay():
     play = Replay()
     all_headers(play)
@@ -581,6 +595,7 @@ def replay():
         out_of_order(play)
     headers_written(play)
     files_converted(play)
+    values_converted(play)
     return play
 
 
