@@ -1,5 +1,31 @@
-//! Headers to read: version 1, one unlimited dimension and up to eight fixed ones, variables of all types. Each driver uses some.
-#![allow(dead_code)]
+//! Headers to read: version 1, one unlimited dimension and up to eight fixed ones, variables of all types.
+
+/// A header that is measured.
+pub struct Sample {
+    pub name: &'static str,
+    pub bytes: Vec<u8>,
+    pub variables: usize,
+    pub attributes: usize,
+    /// The most that reading it may take, beside netcdf3.
+    pub most: f64,
+}
+
+/// Those that are measured, the largest first.
+pub fn measured() -> [Sample; 4] {
+    let sample = |name, dims, variables, own, most| Sample {
+        name,
+        bytes: header(dims, variables, own),
+        variables,
+        attributes: variables * own,
+        most,
+    };
+    [
+        sample("64 variables, 128 attributes", 9, 64, 2, 0.3),
+        sample("10 variables, 20 attributes", 4, 10, 2, 0.7),
+        sample("1 variable, 2 attributes", 1, 1, 2, 2.5),
+        sample("1 variable", 1, 1, 0, 2.5),
+    ]
+}
 
 fn word(out: &mut Vec<u8>, n: usize) {
     out.extend((n as u32).to_be_bytes());
@@ -8,7 +34,7 @@ fn word(out: &mut Vec<u8>, n: usize) {
 fn padded(out: &mut Vec<u8>, bytes: &[u8]) {
     word(out, bytes.len());
     out.extend(bytes);
-    out.resize(out.len().next_multiple_of(4), 0);
+    out.resize((out.len() + 3) / 4 * 4, 0);
 }
 
 fn attrs(out: &mut Vec<u8>, n: usize) {
@@ -22,7 +48,7 @@ fn attrs(out: &mut Vec<u8>, n: usize) {
 }
 
 /// The header of a file with `vars` variables over up to three of `dims` dimensions, each with `own` attributes.
-pub fn header(dims: usize, vars: usize, own: usize) -> Vec<u8> {
+fn header(dims: usize, vars: usize, own: usize) -> Vec<u8> {
     let mut out = b"CDF\x01".to_vec();
     word(&mut out, 2);
     word(&mut out, 10);
@@ -99,8 +125,8 @@ pub fn two_records(count: usize, chunk: usize, other: usize) -> Vec<u8> {
     build(build(0).len())
 }
 
-/// The header of a file of full tables: 64 variables over 8 dimensions of length 2.
-pub fn full() -> Vec<u8> {
+/// A file of full tables: 64 variables over 8 dimensions of length 2, whose values are the file's first bytes.
+pub fn full_file() -> Vec<u8> {
     let names: Vec<String> = (0..32).map(|k| format!("d{k}")).collect();
     let dims: Vec<(&str, usize)> = names.iter().map(|n| (n.as_str(), 2)).collect();
     let mut out = Vec::new();
@@ -108,15 +134,6 @@ pub fn full() -> Vec<u8> {
     for v in 0..64 {
         var(&mut out, &format!("variable_{v}"), &[v % 25, 1, 2, 3, 4, 5, 6, 7], 6, 0);
     }
+    out.resize(out.len().max(8 << 8), 0);
     out
-}
-
-/// Those that are measured: name, bytes, variables, attributes, target.
-pub fn measured() -> [(&'static str, Vec<u8>, usize, usize, f64); 4] {
-    [
-        ("64 variables, 128 attributes", header(9, 64, 2), 64, 128, 0.3),
-        ("10 variables, 20 attributes", header(4, 10, 2), 10, 20, 0.7),
-        ("1 variable, 2 attributes", header(1, 1, 2), 1, 2, 2.5),
-        ("1 variable", header(1, 1, 0), 1, 0, 2.5),
-    ]
 }
