@@ -13,6 +13,7 @@ import glob
 import itertools
 import os
 import random
+import re
 import shlex
 import subprocess
 import sys
@@ -26,6 +27,7 @@ from model import OPEN, Refused, convert, header_bytes, is_record, parse, record
 
 HERE = os.path.dirname(os.path.abspath(__file__))
 CASES, SWEEP, SHOWN = 8000, 100000, 5
+READ = re.compile(" (?:whole|record)=([0-9a-f-]+)")
 NEAR = [2**31, 2**32, 2**53, 2**60, 2**62]
 
 
@@ -64,14 +66,26 @@ def recorded():
 
 
 def real():
-    """Files of ncgen, as they are and with their count left open."""
+    """Files of ncgen, as they are and with their count left open; each of them widened and narrowed too, as whole files that hold the same values."""
     for cdl in sorted(glob.glob(os.path.join(HERE, "cdl", "*.cdl"))):
         for kind in ("classic", "64-bit offset"):
             with tempfile.NamedTemporaryFile() as made:
                 subprocess.run(["ncgen", "-k", kind, "-o", made.name, cdl], check=True)
                 data = made.read()
-            yield data, len(data)
-            yield data[:4] + b"\xff" * 4 + data[8:], len(data)
+            for file in (data, data[:4] + b"\xff" * 4 + data[8:]):
+                files = [file, *(in_version(file, version) for version in (1, 2))]
+                values = {tuple(READ.findall(expected(one, len(one), False)[1])) for one in files}
+                if len(values) != 1:
+                    sys.exit("answers: by the model, the values of %s change with the version" % cdl)
+                yield from ((one, len(one)) for one in files)
+
+
+def in_version(file, version):
+    """The whole file: the new header, then the old bytes from the old header's end."""
+    number, _, length, _, out = convert(file, len(file), version, bytes(len(file) + 4 * 64))
+    if number:
+        sys.exit("answers: the model refuses to convert %s by %d" % (file.hex(), number))
+    return out[:length] + file[parse(file, len(file))[1] :]
 
 
 def swept(n):
