@@ -1,33 +1,24 @@
 -- All tables that the code has are full: what their type says of them.
-use Prim.Native.Nat.{ℕ, zero, suc, _^_, _<_}
+use Prim.Native.Nat.{ℕ, _^_, _<_}
 use native.Mathlib.Omega.{arith}
 use mathlib.Core.Path.{_≡_, sym, _∙_}
 use mathlib.Core.Bool.{true}
-use mathlib.Core.List.{List, [], _∷_, map}
+use mathlib.Core.List.{List}
 use lib.ListN.{length, getD, length-map}
 use lib.Dec.{ltb}
 use borrow.Author.Tests.{lt-ltb}
 use mir.Val.{Val}
-use base.Fml.{Fml}
-use denote.Array.{each}
 use denote.Shadow.{shadow}
 use denote.Struct.Declared.{row}
 use Rattle.cdf.proofs.Laws.Below.{all-hold}
 use Rattle.grammar.proofs.tables.Tables.{the-type}
+use Rattle.grammar.proofs.Laws.Arrays.{element}
 use Rattle.grammar.specs.Tables.{noDim, noAttr, noVar, dimAt, attrAt, varAt, idAt}
 use Rattle.grammar.specs.declared.tables.Dim.{Dim}
 use Rattle.grammar.specs.declared.tables.Attr.{Attr}
 use Rattle.grammar.specs.declared.tables.Var.{Var}
 use Rattle.grammar.specs.declared.tables.Tables.{Tables}
 use Rattle.crossing.specs.Words.{dimInFields, attrInFields, varInFields, tablesInFields, Full}
-
--- what holds of an element of an array
-element : {c : Type 0} (d : Type 0) (f : d → List Val → Fml) (h : c → d) (z : c) (xs : List c) (us : List Val) → shadow (each d f (map h xs) us) → (i : ℕ) → i < length xs
-    → (u : Val) × shadow (f (h (getD xs i z)) (u ∷ []))
-element d f h z [] us s i l = absurd (omega arith)
-element d f h z (x ∷ xs) [] s i l = absurd s
-element d f h z (x ∷ xs) (u ∷ us) s zero l = (u, s .0)
-element d f h z (x ∷ xs) (u ∷ us) s (suc i) l = element d f h z xs us (s .1) i (omega arith)
 
 -- rows whose numbers are below the limits of their fields
 dim-fits : (d : Dim) → d .chars < 4294967296 → d .length < 4294967296 → dimInFields d ≡ true

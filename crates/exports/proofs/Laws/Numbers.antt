@@ -1,13 +1,13 @@
 -- No refusal has the number 0: so an answer of the number 0 gives something.
 use Prim.Native.Nat.{ℕ}
 use native.Mathlib.Omega.{arith}
-use mathlib.Core.Path.{_≡_, refl}
+use mathlib.Core.Path.{_≡_, refl, sym, ap, _∙_}
 use mathlib.Core.Bool.{Bool, true, false}
 use mathlib.Core.List.{List}
 use lib.Dec.{eqb}
 use borrow.Author.Tests.{eqb-false}
 use Rattle.cdf.specs.Magic.{bothVersions}
-use Rattle.cdf.specs.Step.{Step, got, stop, test, need, into}
+use Rattle.cdf.specs.Step.{Step, got, stop, test, need, into, numberOf}
 use Rattle.grammar.specs.declared.tables.Tables.{Tables}
 use Rattle.header.specs.Header.{readHeader, afterHeader}
 use Rattle.header.specs.declared.reader.Header.{Header}
@@ -59,3 +59,12 @@ converted-numbered version s h out =
 pub convert-numbered : (version : ℕ) (s : List ℕ) (size : ℕ) (out : List ℕ) → Numbered (convert version s size out)
 unfolding convert
 convert-numbered version s size out = after-numbered (readHeader s size bothVersions) (λ h. converted version s h out) (converted-numbered version s (readHeader s size bothVersions) out)
+
+-- a number other than 0 is a refusal's, and with 0 something is given
+pub number-stops : {A : Type 0} (y : Step A) {k : ℕ} → k ≡ numberOf y → (k ≡ 0 → ⊥) → {Q : Type 0} → ((p : ℕ) → stop k p ≡ y → Q) → Q
+number-stops (got x n) e z f = absurd (z e)
+number-stops (stop i p) e z f = f p (ap (λ (j : ℕ). stop j p) e)
+
+pub number-gives : {A : Type 0} (y : Step A) {k : ℕ} → Numbered y → k ≡ numberOf y → k ≡ 0 → {Q : Type 0} → ((x : A) (n : ℕ) → got x n ≡ y → Q) → Q
+number-gives (got x n) m e z f = f x n refl
+number-gives (stop i p) m e z f = absurd (m (sym e ∙ z))

@@ -1,6 +1,6 @@
 -- Laws of answers that cross.
 use Prim.Native.Nat.{ℕ}
-use mathlib.Core.Path.{_≡_, refl, sym, ap, subst, _∙_}
+use mathlib.Core.Path.{_≡_, refl, sym, ap, _∙_}
 use mathlib.Core.List.{List}
 use Rattle.cdf.specs.Step.{Step, got, stop, numberOf, givenOr, Leaves}
 use Rattle.reads.specs.declared.variable.Spread.{Spread}
@@ -8,41 +8,28 @@ use Rattle.reads.specs.declared.bits.Bits.{Bits}
 use Rattle.model.specs.Model.{Span}
 use Rattle.convert.specs.Convert.{New, answerOf, outputOr}
 use Rattle.convert.specs.declared.convert.Converted.{Converted}
-use Rattle.exports.specs.Outputs.{TellsList, TellsNumber, TellsName, TellsElement, TellsConverted}
+use Rattle.exports.specs.Outputs.{partOr, Gets, TellsList, TellsNumber, TellsName, TellsElement, TellsConverted}
 use Rattle.exports.proofs.Laws.Numbers.{Numbered}
 
 -- what a read leaves of a variable that was found, found otherwise
 pub of-found : {A : Type 0} (out : List A) {k : ℕ} {new : List A} {m n : Step Spread} (f : Step Spread → Step (List A)) → m ≡ n → (k ≡ numberOf (f m)) × (new ≡ givenOr out (f m)) → Leaves out (f n) k new
 of-found out f e p = (p .0 ∙ ap (λ (x : Step Spread). numberOf (f x)) e, p .1 ∙ ap (λ (x : Step Spread). givenOr out (f x)) e)
 
--- what is told of a refusal, and of what is given
-module _ (code bits : ℕ) where
-  pub element-refused : {y : Step Bits} {k : ℕ} → stop k 0 ≡ y → TellsElement y k code code bits bits
-  element-refused {y} {k} e = subst (λ (z : Step Bits). TellsElement z k code code bits bits) e (refl, refl, refl)
+-- an output, by an answer z that is the one to be given: a refusal's stays, another's is a part of what is given
+gets : {A B : Type 0} {z y : Step A} (part : A → ℕ → B) (old : B) → z ≡ y → Gets y part old (partOr old part z)
+gets part old e = ap (partOr old part) e
 
-  pub element-told : {y : Step Bits} {x : Bits} → got x 0 ≡ y → TellsElement y 0 code (x .code) bits (x .bits)
-  element-told {y} {x} e = subst (λ (z : Step Bits). TellsElement z 0 code (x .code) bits (x .bits)) e (refl, refl, refl)
+pub element-is : {z y : Step Bits} (code bits : ℕ) → z ≡ y → TellsElement y (numberOf z) code (partOr code (λ x _. x .code) z) bits (partOr bits (λ x _. x .bits) z)
+element-is code bits e = (ap numberOf e, gets _ code e, gets _ bits e)
 
-module _ (number : ℕ) where
-  pub number-refused : {y : Step ℕ} {k p : ℕ} → stop k p ≡ y → TellsNumber y k number number
-  number-refused {y} {k} e = subst (λ (z : Step ℕ). TellsNumber z k number number) e (refl, refl)
+pub number-is : {z y : Step ℕ} (number : ℕ) → z ≡ y → TellsNumber y (numberOf z) number (partOr number (λ x _. x) z)
+number-is number e = (ap numberOf e, gets _ number e)
 
-  pub number-told : {y : Step ℕ} {x n : ℕ} → got x n ≡ y → TellsNumber y 0 number x
-  number-told {y} {x} e = subst (λ (z : Step ℕ). TellsNumber z 0 number x) e (refl, refl)
+pub name-is : {z y : Step Span} (at chars : ℕ) → z ≡ y → TellsName y (numberOf z) at (partOr at (λ x _. x .at) z) chars (partOr chars (λ x _. x .chars) z)
+name-is at chars e = (ap numberOf e, gets _ at e, gets _ chars e)
 
-module _ (at chars : ℕ) where
-  pub name-refused : {y : Step Span} {k p : ℕ} → stop k p ≡ y → TellsName y k at at chars chars
-  name-refused {y} {k} e = subst (λ (z : Step Span). TellsName z k at at chars chars) e (refl, refl, refl)
-
-  pub name-told : {y : Step Span} {x : Span} {n : ℕ} → got x n ≡ y → TellsName y 0 at (x .at) chars (x .chars)
-  name-told {y} {x} e = subst (λ (z : Step Span). TellsName z 0 at (x .at) chars (x .chars)) e (refl, refl, refl)
-
-module _ (out : List ℕ) (place : ℕ) where
-  pub list-refused : {y : Step (List ℕ)} {k p : ℕ} {new : List ℕ} → stop k p ≡ y → new ≡ out → TellsList y k out new place place
-  list-refused {y} {k} {p} {new} e f = subst (λ (z : Step (List ℕ)). TellsList z k out new place place) e (refl, f, refl)
-
-  pub list-told : {y : Step (List ℕ)} {x : List ℕ} {n : ℕ} → got x n ≡ y → TellsList y 0 out x place n
-  list-told {y} {x} {n} e = subst (λ (z : Step (List ℕ)). TellsList z 0 out x place n) e (refl, refl, refl)
+pub list-is : {z y : Step (List ℕ)} {new : List ℕ} (out : List ℕ) (place : ℕ) → new ≡ partOr out (λ x _. x) z → z ≡ y → TellsList y (numberOf z) out new place (partOr place (λ _ n. n) z)
+list-is out place f e = (ap numberOf e, f ∙ gets _ out e, gets _ place e)
 
 -- a converted header, by its answer and its output
 pub converted-refused : (y : Step New) {r : Converted} (out : List ℕ) {new : List ℕ} (length size : ℕ) → r ≡ answerOf y → new ≡ outputOr out y → (r .number ≡ 0 → ⊥) → TellsConverted y (r .number) out new length length size size

@@ -6,11 +6,10 @@ use mathlib.Core.List.{List, [], _∷_, map}
 use lib.ListN.{length, getD, take, drop, length-map, length-drop}
 use lib.Seq.{getD-drop, length-take-le}
 use mir.Val.{Val}
-use base.Fml.{Fml}
-use denote.Array.{each}
 use denote.Shadow.{shadow}
 use denote.Struct.Declared.{row}
 use Rattle.grammar.proofs.tables.Tables.{the-type}
+use Rattle.grammar.proofs.Laws.Arrays.{element}
 use Rattle.grammar.specs.Tables.{noDim, noAttr, noVar, dimAt, attrAt, varAt}
 use Rattle.grammar.specs.Meaning.{Dimension, Attribute, Variable, dimension, attribute, variable, contents, itemOf, held}
 use Rattle.grammar.specs.declared.tables.Tables.{Tables}
@@ -24,14 +23,6 @@ pub record FullRows (t : Tables) : Type 0 where
   pub attrs : length (t .attrs) ≡ 128
   pub vars : length (t .vars) ≡ 64
   pub ids : (i : ℕ) → i < t .nvars → i < 64 → length (varAt t i .ids) ≡ 8
-
--- what holds of an element of an array that the code has
-element : {c : Type 0} (d : Type 0) (f : d → List Val → Fml) (h : c → d) (z : c) (xs : List c) (us : List Val) → shadow (each d f (map h xs) us) → (i : ℕ) → i < length xs
-    → (u : Val) × shadow (f (h (getD xs i z)) (u ∷ []))
-element d f h z [] us s i l = absurd (omega arith)
-element d f h z (x ∷ xs) [] s i l = absurd s
-element d f h z (x ∷ xs) (u ∷ us) s zero l = (u, s .0)
-element d f h z (x ∷ xs) (u ∷ us) s (suc i) l = element d f h z xs us (s .1) i (omega arith)
 
 -- tables that the code has: their arrays have the lengths of their types
 pub full-rows : (t : Tables) (vs : List Val) → shadow (row the-type .own t vs) → FullRows t

@@ -1,4 +1,4 @@
-use Rattle.exports.proofs.Laws.Outputs.{element-refused, element-told}
+use Rattle.exports.proofs.Laws.Outputs.{element-is}
 use Rattle.reads.specs.declared.variable.Spread.{Spread}
 use Rattle.reads.specs.Element.{ofTold, bitsFrom}
 use Rattle.cdf.specs.Step.{Step}
@@ -24,10 +24,10 @@ cast-code : tie.Need-cast-code
 cast-code c = search needs
 
 returns : tie.Need-returns
-returns c = element-refused _ _ (ap ofTold (sym (c .before .k .given .1)) ∙ (c .before .before .before .read-bits .ensures ∙ ap (λ (m : Step Spread). bitsFrom m (now (c .before .before .before .before .before .before .before .args .window)) (c .before .before .before .before .before .before .before .args .start) (c .before .before .before .before .before .before .before .args .r) (c .before .before .before .before .before .before .before .args .e)) (c .before .before .before .before .taken .ensures)))
+returns c = element-is _ _ (ap ofTold (sym (c .before .k .given .1)) ∙ (c .before .before .before .read-bits .ensures ∙ ap (λ (m : Step Spread). bitsFrom m (now (c .before .before .before .before .before .before .before .args .window)) (c .before .before .before .before .before .before .before .args .start) (c .before .before .before .before .before .before .before .args .r) (c .before .before .before .before .before .before .before .args .e)) (c .before .before .before .before .taken .ensures)))
 
 returns-2 : tie.Need-returns-2
-returns-2 c = element-told _ _ (ap ofTold (sym (c .before .before .x .given .1)) ∙ (c .before .before .before .before .read-bits .ensures ∙ ap (λ (m : Step Spread). bitsFrom m (now (c .before .before .before .before .before .before .before .before .args .window)) (c .before .before .before .before .before .before .before .before .args .start) (c .before .before .before .before .before .before .before .before .args .r) (c .before .before .before .before .before .before .before .before .args .e)) (c .before .before .before .before .before .taken .ensures)))
+returns-2 c = element-is _ _ (ap ofTold (sym (c .before .before .x .given .1)) ∙ (c .before .before .before .before .read-bits .ensures ∙ ap (λ (m : Step Spread). bitsFrom m (now (c .before .before .before .before .before .before .before .before .args .window)) (c .before .before .before .before .before .before .before .before .args .start) (c .before .before .before .before .before .before .before .before .args .r) (c .before .before .before .before .before .before .before .before .args .e)) (c .before .before .before .before .before .taken .ensures)))
 
 pub fungal-read-element-spec : {M : Type 1} → statement M
 fungal-read-element-spec =
