@@ -113,7 +113,7 @@ fn convert_file<R: Read + Seek, W: Write>(
     mut writer: W,
 ) -> Result<u64, Error> {
     let mut source = Source::new(reader)?;
-    let converted = source.ask_prefix(conversion)?;
+    let converted = source.ask_prefix(conversion)?.1?;
     writer.write_all(&converted.header)?;
     source.copy_rest(converted.from, &mut writer)?;
     writer.flush()?;

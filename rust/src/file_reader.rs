@@ -93,7 +93,7 @@ impl<R: Read + Seek> FileReader<R> {
     /// ```
     pub fn with_versions(reader: R, versions: Versions) -> Result<FileReader<R>, Error> {
         let mut source = Source::new(reader)?;
-        let header = source.ask_prefix(|prefix, size| Header::read(prefix, size, versions))?;
+        let header = source.ask_prefix(|prefix, size| Header::read(prefix, size, versions))?.1?;
         Ok(FileReader { header, source })
     }
 

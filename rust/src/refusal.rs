@@ -64,6 +64,18 @@ impl Refusal {
         WORDS.get(usize::from(self.number)).copied().unwrap_or("no number of the table")
     }
 
+    /// The whole table: every number, 0 to 25, and its words.
+    ///
+    /// ```
+    /// use fungalcove::Refusal;
+    ///
+    /// assert_eq!(Refusal::table().next(), Some((0, "accepted")));
+    /// assert_eq!(Refusal::table().nth(7), Some((7, "padding byte not zero")));
+    /// ```
+    pub fn table() -> impl Iterator<Item = (u8, &'static str)> {
+        (0..).zip(WORDS)
+    }
+
     /// What was refused by a number while the header was read, or after it.
     pub(crate) fn of_header(number: u8, prefix: &[u8], size: u64, versions: Versions) -> Refusal {
         let place = match number {

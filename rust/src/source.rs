@@ -1,6 +1,6 @@
 //! Bytes out of something that is read and sought.
 
-use crate::{Error, Refusal};
+use crate::Refusal;
 use std::io::{self, Read, Seek, SeekFrom};
 
 /// How many bytes are fetched first for a header; most headers are no longer.
@@ -26,15 +26,18 @@ impl<R: Read + Seek> Source<R> {
         self.reader
     }
 
-    /// What `ask` answers to the file's first bytes and its size, with more of them as long as it wants more.
-    pub(crate) fn ask_prefix<T>(&mut self, ask: impl Fn(&[u8], u64) -> Result<T, Refusal>) -> Result<T, Error> {
+    /// The file's first bytes, and what `ask` answers to them and the size: more of them as long as it wants more.
+    pub(crate) fn ask_prefix<T>(
+        &mut self,
+        ask: impl Fn(&[u8], u64) -> Result<T, Refusal>,
+    ) -> io::Result<(Vec<u8>, Result<T, Refusal>)> {
         let mut prefix = Vec::new();
         let mut wanted = FIRST_PREFIX;
         loop {
             self.extend(&mut prefix, wanted)?;
             match ask(&prefix, self.size) {
                 Err(Refusal { number: 1, .. }) => wanted = wanted.saturating_mul(2),
-                answer => return Ok(answer?),
+                answer => return Ok((prefix, answer)),
             }
         }
     }

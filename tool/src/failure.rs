@@ -1,0 +1,84 @@
+//! What ends a command before its work is done, and the exit statuses.
+
+use crate::numbers;
+use fungalcove::{Error, Refusal};
+use std::fmt;
+use std::io;
+use std::path::Path;
+use std::process::ExitCode;
+
+/// How a command ended; of several files the worst counts.
+#[derive(Debug, Clone, Copy, PartialEq, Eq, PartialOrd, Ord)]
+pub enum Status {
+    /// Everything asked for was done, and nothing is wrong.
+    Good,
+    /// A file is refused, differs or is suspect.
+    Bad,
+    /// A file could not be read or written, or the command line is wrong.
+    Unread,
+}
+
+impl From<Status> for ExitCode {
+    fn from(status: Status) -> ExitCode {
+        ExitCode::from(status as u8)
+    }
+}
+
+/// Why a command could not go on.
+#[derive(Debug)]
+pub enum Failure {
+    /// A file's bytes are refused.
+    Refused(String, Refusal),
+    /// A file can't be read or written.
+    Io(String, io::Error),
+    /// Something else is wrong; the words say what to do.
+    Said(String),
+    /// The command's own output can't be written.
+    Output(io::Error),
+}
+
+impl Failure {
+    /// Of a file that a function of the library failed on.
+    pub fn of(file: &Path, error: impl Into<Error>) -> Failure {
+        let name = file.display().to_string();
+        match error.into() {
+            Error::Refused(refusal) => Failure::Refused(name, refusal),
+            Error::Io(error) => Failure::Io(name, error),
+        }
+    }
+
+    pub fn status(&self) -> Status {
+        match self {
+            Failure::Refused(..) => Status::Bad,
+            _ => Status::Unread,
+        }
+    }
+
+    /// Says so on standard error; nothing where nobody reads the output any longer.
+    pub fn report(&self) {
+        match self {
+            Failure::Output(error) if error.kind() == io::ErrorKind::BrokenPipe => (),
+            _ => eprintln!("fungal: {}", self),
+        }
+    }
+}
+
+impl fmt::Display for Failure {
+    fn fmt(&self, f: &mut fmt::Formatter<'_>) -> fmt::Result {
+        match self {
+            Failure::Refused(file, refusal) => {
+                write!(f, "{}: {}\n  {}", file, refusal, numbers::advice(refusal.number))
+            }
+            Failure::Io(file, error) => write!(f, "{}: {}", file, error),
+            Failure::Said(words) => f.write_str(words),
+            Failure::Output(error) => write!(f, "the output can't be written: {}", error),
+        }
+    }
+}
+
+/// Errors of a writer that is the command's own output.
+impl From<io::Error> for Failure {
+    fn from(error: io::Error) -> Failure {
+        Failure::Output(error)
+    }
+}

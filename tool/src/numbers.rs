@@ -1,0 +1,51 @@
+//! Document 01's numbers: the library's words for them, and what to do.
+
+use fungalcove::Refusal;
+use std::io::{self, Write};
+
+/// What whoever meets a number may do about it.
+pub fn advice(number: u8) -> &'static str {
+    match number {
+        0 => "nothing is wrong",
+        1 => "more of the file's first bytes are wanted; of a whole file the number is 2",
+        2 => "the file ends inside its header: it was cut off when it was written or copied; fetch it again",
+        3 => "this is no NetCDF-3 file; one that starts with \\x89HDF is netCDF-4, and `nccopy -k classic` converts it",
+        4 => "classic (1) and 64-bit offset (2) are read, and what --admit leaves of them; CDF-5 is not",
+        5 => "no count, length or id lies above 2147483647: the header is damaged, `fungal explain` shows where",
+        6 => "names are UTF-8; an old writer may have put down another encoding",
+        7 => "in a header the bytes that fill up to four are zero; some old writers leave there what was in memory",
+        8 => "the types are 1 to 6; those from 7 up belong to CDF-5",
+        9 => "what should start a list starts none: the header is damaged, `fungal explain` shows where",
+        10 => "at most 32 dimensions, 64 variables, 128 attributes in all, 8 dimensions a variable, 256 bytes a name",
+        11 => {
+            "a name is empty or twice in its list, two dimensions are unlimited, an id names no dimension, or the \
+               unlimited dimension is not a variable's first; `fungal explain` names the item"
+        }
+        12 => "a place or a size that no file has: the header is damaged, `fungal explain` names the variable",
+        13 => "the count is left open, and the file ends inside a record: it was cut off, or bytes follow the last one",
+        14 => "the count is left open, and the file ends before its first record: it was cut off",
+        15 => "the count or a place is out of all proportion: the header is damaged",
+        16 => "`fungal show FILE` lists the variables; names are spelled as in the file",
+        17 => "ask for the type that the variable has",
+        18 => {
+            "records count from 0; `fungal show FILE` says how many there are, and a fixed variable has record 0 only"
+        }
+        19 => "elements count from 0, inside a record",
+        20 => "the file ends before these values: it was cut off",
+        21 => "no file of more than 2^62 bytes is read",
+        22 => "the output that is lent has too little room",
+        23 => "the tables were changed since they were read",
+        24 => "a variable's values begin inside the header, so the header can't be changed",
+        25 => "version 1 reaches no further than 2147483647 bytes; leave this file in version 2",
+        _ => "",
+    }
+}
+
+/// All numbers, with their words and what to do.
+pub fn print(out: &mut impl Write) -> io::Result<()> {
+    writeln!(out, "Every answer has a number. A header's refusal, 1 to 10, has the place of the byte as well.\n")?;
+    for (number, words) in Refusal::table() {
+        writeln!(out, "{:3}  {}\n     {}", number, words, advice(number))?;
+    }
+    Ok(())
+}
