@@ -14,8 +14,12 @@ use Rattle.reads.specs.declared.element.Value.{Value}
 use Rattle.reads.specs.declared.element.Value.the-variants.{Byte, Char, Short, Int, Float, Double, Refused}
 use Rattle.lookup.specs.declared.names.Found.{Found}
 use Rattle.lookup.specs.declared.names.Found.the-variants.{At, Refused as Missing}
+use Rattle.guest32.specs.Guest.{ofAnswer}
+use Rattle.guest32.specs.declared.guest.Guest.{Guest}
+use Rattle.guest32.specs.declared.guest.Answer.{Answer}
+use Rattle.guest32.specs.declared.guest.Answer.the-variants.{Got as Made, Refused as Unmade}
 use Prim.Native.Nat.{ℕ}
-use Rattle.demands.specs.Determined.{HeaderDetermined, OutputsDetermined, FoundDetermined, ElementsDetermined, LoadsDetermined, PartsDetermined, LookupsDetermined, NumbersDetermined, WriterDetermined, ConversionDetermined}
+use Rattle.demands.specs.Determined.{HeaderDetermined, OutputsDetermined, FoundDetermined, GuestDetermined, ElementsDetermined, LoadsDetermined, PartsDetermined, LookupsDetermined, NumbersDetermined, WriterDetermined, ConversionDetermined}
 
 pub header-determined : HeaderDetermined
 unfolding HeaderDetermined
@@ -66,6 +70,19 @@ told-kept : (x : Told) → told-back (ofTold x) ≡ x
 unfolding told-back
 told-kept (Gave x) = refl
 told-kept (Withheld k) = refl
+
+answer-back : Step Guest → Answer
+answer-back (got g n) = Made g
+answer-back (stop k p) = Unmade k
+
+answer-kept : (x : Answer) → answer-back (ofAnswer x) ≡ x
+unfolding answer-back
+answer-kept (Made g) = refl
+answer-kept (Unmade k) = refl
+
+pub guest-determined : GuestDetermined
+unfolding GuestDetermined
+guest-determined y x x′ p q = sym (answer-kept x) ∙ ap answer-back (p ∙ sym q) ∙ answer-kept x′
 
 pub found-determined : FoundDetermined
 unfolding FoundDetermined

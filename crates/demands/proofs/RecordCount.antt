@@ -104,7 +104,7 @@ open-is-exact s size a t (z, is) =
 
 -- ---- the smallest begin
 module _ (p : ℕ → Bool) (g : ℕ → ℕ) (d : ℕ) where
-  smallest-below : (n i : ℕ) → i < n → p i ≡ true → smallest p g d n ≤ g i
+  pub smallest-below : (n i : ℕ) → i < n → p i ≡ true → smallest p g d n ≤ g i
   unfolding smallest
   smallest-below zero i l e = absurd (not-suc-le-zero l)
   smallest-below (suc n) i l e = by (p n) refl (smallest-below n i)
@@ -130,11 +130,11 @@ module _ (p : ℕ → Bool) (g : ℕ → ℕ) (d : ℕ) where
   smallest-none (suc n) e = rw (none-at p (suc n) n e (omega arith)) (smallest-none n (none-holds p n (λ k l. none-at p (suc n) k e (omega arith))))
 
   -- x is one of the numbers below m
-  abbrev One : ℕ → ℕ → Type 0
+  abbrev pub One : ℕ → ℕ → Type 0
   One m x = (i : ℕ) × (i < m) × (p i ≡ true) × (x ≡ g i)
 
   -- it is one of the numbers, where none is above d
-  smallest-one : (n : ℕ) → ((i : ℕ) → i < n → p i ≡ true → g i ≤ d) → anyBelow n p ≡ true → One n (smallest p g d n)
+  pub smallest-one : (n : ℕ) → ((i : ℕ) → i < n → p i ≡ true → g i ≤ d) → anyBelow n p ≡ true → One n (smallest p g d n)
   unfolding smallest anyBelow
   smallest-one zero h e = let z : _≡_ {A = Bool} false true = e in absurd (unlike (sym z))
   smallest-one (suc n) h e = by (p n) refl (anyBelow n p) refl (smallest-one n (λ i l. h i (omega arith)))

@@ -18,6 +18,9 @@ use Rattle.reads.specs.declared.element.Value.{Value}
 use Rattle.reads.specs.declared.bits.Bits.{Bits}
 use Rattle.reads.specs.declared.bits.Told.{Told}
 use Rattle.lookup.specs.declared.names.Found.{Found}
+use Rattle.guest32.specs.Guest.{ofAnswer}
+use Rattle.guest32.specs.declared.guest.Guest.{Guest}
+use Rattle.guest32.specs.declared.guest.Answer.{Answer}
 use Rattle.crossing.specs.Words.{Loads}
 use Rattle.crossing.specs.declared.load.Loaded.{Loaded}
 use Rattle.exports.specs.Outputs.{Gets}
@@ -38,6 +41,10 @@ OutputsDetermined =
 -- a variable that is found, for reads of it
 unfoldable pub FoundDetermined : Type 0
 FoundDetermined = (y : Step Spread) (x x′ : Sought) → ofSought x ≡ y → ofSought x′ ≡ y → x ≡ x′
+
+-- what a 32-bit build of netcdf3 makes of a file
+unfoldable pub GuestDetermined : Type 0
+GuestDetermined = (y : Step Guest) (x x′ : Answer) → ofAnswer x ≡ y → ofAnswer x′ ≡ y → x ≡ x′
 
 -- a value: every element read; and a value's bits
 unfoldable pub ElementsDetermined : Type 0

@@ -6,6 +6,7 @@ use Rattle.cdf.specs.Step.{Step, got, stop, numberOf}
 use Rattle.model.specs.Model.{Span}
 use Rattle.convert.specs.Convert.{New}
 use Rattle.reads.specs.declared.bits.Bits.{Bits}
+use Rattle.guest32.specs.declared.guest.Guest.{Guest}
 
 -- a part of what an answer gives, or of its place, where it gives any; else what stood there before
 abbrev pub partOr : {A B : Type 0} → B → (A → ℕ → B) → Step A → B
@@ -37,3 +38,9 @@ TellsElement y k code code′ bits bits′ = (k ≡ numberOf y) × Gets y (λ x 
 abbrev pub TellsConverted : Step New → ℕ → List ℕ → List ℕ → ℕ → ℕ → ℕ → ℕ → Type 0
 TellsConverted y k out out′ length length′ size size′ =
     (k ≡ numberOf y) × Gets y (λ x _. x .output) out out′ × Gets y (λ _ n. n) length length′ × Gets y (λ x _. x .size) size size′
+
+-- what a 32-bit build makes of a file: the number of its error, the records, the first from elsewhere, the first variable cut short
+abbrev pub TellsGuest : Step Guest → ℕ → ℕ → ℕ → ℕ → ℕ → ℕ → ℕ → ℕ → ℕ → Type 0
+TellsGuest y k error error′ records records′ foreign foreign′ cut cut′ =
+    (k ≡ numberOf y) × Gets y (λ x _. x .number) error error′ × Gets y (λ x _. x .records) records records′ × Gets y (λ x _. x .foreign) foreign foreign′
+    × Gets y (λ x _. x .cut) cut cut′

@@ -8,3 +8,4 @@ mod record; // record.rt: one record
 mod whole; // whole.rt: all records
 mod written; // written.rt: the header writer
 mod converted; // converted.rt: widening and narrowing
+mod guest; // guest.rt: what a 32-bit build of netcdf3 makes of a file

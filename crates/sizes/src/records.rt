@@ -98,7 +98,7 @@ fn padded_bytes(len: u64, code: u8) -> u64
     bytes + compute_padding_size(bytes)
 }
 
-fn smaller(a: u64, b: u64) -> u64
+pub fn smaller(a: u64, b: u64) -> u64
     ensures { λ r. ⌜ r ≡ min a b ⌝ }
 {
     if b < a { b } else { a }

@@ -5,10 +5,11 @@ use mathlib.Core.List.{List}
 use Rattle.cdf.specs.Step.{Step, got, stop, numberOf, givenOr, Leaves}
 use Rattle.reads.specs.declared.variable.Spread.{Spread}
 use Rattle.reads.specs.declared.bits.Bits.{Bits}
+use Rattle.guest32.specs.declared.guest.Guest.{Guest}
 use Rattle.model.specs.Model.{Span}
 use Rattle.convert.specs.Convert.{New, answerOf, outputOr}
 use Rattle.convert.specs.declared.convert.Converted.{Converted}
-use Rattle.exports.specs.Outputs.{partOr, Gets, TellsList, TellsNumber, TellsName, TellsElement, TellsConverted}
+use Rattle.exports.specs.Outputs.{partOr, Gets, TellsList, TellsNumber, TellsName, TellsElement, TellsConverted, TellsGuest}
 use Rattle.exports.proofs.Laws.Numbers.{Numbered}
 
 -- what a read leaves of a variable that was found, found otherwise
@@ -27,6 +28,9 @@ number-is number e = (ap numberOf e, gets _ number e)
 
 pub name-is : {z y : Step Span} (at chars : ℕ) → z ≡ y → TellsName y (numberOf z) at (partOr at (λ x _. x .at) z) chars (partOr chars (λ x _. x .chars) z)
 name-is at chars e = (ap numberOf e, gets _ at e, gets _ chars e)
+
+pub guest-is : {z y : Step Guest} (error records foreign cut : ℕ) → z ≡ y → TellsGuest y (numberOf z) error (partOr error (λ x _. x .number) z) records (partOr records (λ x _. x .records) z) foreign (partOr foreign (λ x _. x .foreign) z) cut (partOr cut (λ x _. x .cut) z)
+guest-is error records foreign cut e = (ap numberOf e, gets _ error e, gets _ records e, gets _ foreign e, gets _ cut e)
 
 pub list-is : {z y : Step (List ℕ)} {new : List ℕ} (out : List ℕ) (place : ℕ) → new ≡ partOr out (λ x _. x) z → z ≡ y → TellsList y (numberOf z) out new place (partOr place (λ _ n. n) z)
 list-is out place f e = (ap numberOf e, f ∙ gets _ out e, gets _ place e)

@@ -295,6 +295,10 @@ module _ (t : Tables) where
     pub chunk-in : paddedBytes (t .dims) (varAt t i) ≤ maxChunk
     chunk-in = leb-true _ _ (here .1)
 
+  pub sum-in : sizesHold t ≡ true → recordSize t ≤ maxChunk
+  unfolding sizesHold
+  sum-in sizes = leb-true _ _ (both (allBelow (t .nvars) (placed t)) (leb (recordSize t) maxChunk) sizes .1)
+
 -- whether steps take more than the room, by a division
 pub passes-none : (room n m : ℕ) → m ≡ 0 → false ≡ ltb room (n * m)
 passes-none room n m e = rw (e, mul-zero) (sym (le-ltb room 0 (omega arith)))
