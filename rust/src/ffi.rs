@@ -38,6 +38,7 @@ mod c {
         pub fn fungal_read_element(var: *const u64, words: u64, window: *const u8, bytes: u64, start: u64, record: u64, element: u64, code: *mut u64, bits: *mut u64) -> Returned;
         pub fn fungal_write_header(tables: *const u64, words: u64, text: *const u8, bytes: u64, out: *mut u8, room: u64, length: *mut u64) -> Returned;
         pub fn fungal_widen(prefix: *const u8, bytes: u64, size: u64, out: *mut u8, room: u64, length: *mut u64, new_size: *mut u64) -> Returned;
+        pub fn fungal_guest32(tables: *const u64, words: u64, error: *mut u64, records: *mut u64, foreign: *mut u64, cut: *mut u64) -> Returned;
         pub fn fungal_narrow(prefix: *const u8, bytes: u64, size: u64, out: *mut u8, room: u64, length: *mut u64, new_size: *mut u64) -> Returned;
     }
 }
@@ -96,6 +97,16 @@ pub(crate) fn write_header(tables: &Tables, text: &[u8], out: &mut [u8]) -> (u8,
         c::fungal_write_header(tables.as_ptr(), words, text.as_ptr(), bytes, out.as_mut_ptr(), room, &mut length)
     };
     (number as u8, length)
+}
+
+/// Number; then what a 32-bit build of netcdf3 makes of the file: its error or 0, the records that it finds, the first from
+/// elsewhere, the first variable cut short.
+pub(crate) fn guest32(tables: &Tables) -> (u8, [u64; 4]) {
+    let (mut error, mut records, mut foreign, mut cut) = (0, 0, 0, 0);
+    let words = tables.len() as u64;
+    // SAFETY: the slice and the four numbers outlive the call.
+    let number = unsafe { c::fungal_guest32(tables.as_ptr(), words, &mut error, &mut records, &mut foreign, &mut cut) };
+    (number as u8, [error, records, foreign, cut])
 }
 
 macro_rules! conversion {

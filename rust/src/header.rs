@@ -1,7 +1,7 @@
 //! Headers.
 
 use crate::ffi::{self, Tables};
-use crate::{tables, Attribute, Dimension, Refusal, Variable, Version, Versions};
+use crate::{tables, Attribute, Dimension, Guest32, Refusal, Variable, Version, Versions};
 use std::fmt;
 
 /// A file's header: its dimensions, attributes and variables. It owns what it needs and keeps nothing of the file open.
@@ -217,6 +217,18 @@ impl Header {
         } else {
             Err(Refusal::without_place(16))
         }
+    }
+
+    /// What a 32-bit build of netcdf3 0.6.1 makes of the file.
+    ///
+    /// ```
+    /// use fungalcove::{example, Header, Versions};
+    ///
+    /// let header = Header::read(&example::X, 4294967376, Versions::BOTH).unwrap();
+    /// assert_eq!((header.record_count(), header.guest32().records), (1073741824, Ok(0)));
+    /// ```
+    pub fn guest32(&self) -> Guest32 {
+        Guest32::of(self)
     }
 
     pub(crate) fn tables(&self) -> &Tables {

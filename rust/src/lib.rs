@@ -82,6 +82,7 @@ pub mod example;
 #[allow(unsafe_code)]
 mod ffi;
 mod file_reader;
+mod guest32;
 mod header;
 mod opening;
 mod reads;
@@ -101,6 +102,7 @@ pub use dimension::Dimension;
 pub use element::Element;
 pub use error::Error;
 pub use file_reader::FileReader;
+pub use guest32::{Guest32, Guest32Error};
 pub use header::Header;
 pub use opening::Opening;
 pub use refusal::Refusal;
