@@ -2,7 +2,8 @@
 //!
 //! HEX are a file's first bytes, SIZE pretends a larger file; then no values are read. A refusal is `refused NUMBER PLACE`.
 //! `--reader` reads through a `FileReader` instead of a window. `--converted` adds `written=HEADER` where the file is accepted,
-//! and in any case `widen=` and `narrow=`, each followed by `NUMBER:PLACE:LENGTH:SIZE:FROM:HEADER`.
+//! and in any case `widen=` and `narrow=`, each followed by `NUMBER:PLACE:LENGTH:SIZE:FROM:HEADER`. `--guest32` answers what a 32-bit build of
+//! netcdf3 makes of an accepted file in place of its fields: `accepted records=N foreign=RECORD cut=VARIABLE`, `-` for none, or its error in place of N.
 
 use fungalcove::{
     narrow, widen, Attribute, Converted, FileReader, Header, Refusal, Values, Variable, Versions, Window,
@@ -115,7 +116,15 @@ fn converted(answer: Result<Converted, Refusal>) -> String {
     }
 }
 
-fn answer(line: &str, through_reader: bool, conversions: bool) -> String {
+fn in_guest(header: &Header) -> String {
+    let told = |number: Option<u64>| number.map_or("-".to_string(), |number| number.to_string());
+    let guest = header.guest32();
+    let records = guest.records.map_or_else(|error| error.to_string(), |records| records.to_string());
+    let cut = told(guest.first_cut.map(|variable| variable as u64));
+    format!("accepted records={} foreign={} cut={}", records, told(guest.first_foreign), cut)
+}
+
+fn answer(line: &str, asked: &Asked) -> String {
     let mut fields = line.split(' ');
     let bytes = unhex(fields.next().unwrap_or(""));
     let pretended: Option<u64> = fields.next().map(|size| size.parse().expect("a size"));
@@ -123,22 +132,31 @@ fn answer(line: &str, through_reader: bool, conversions: bool) -> String {
     let header = Header::read(&bytes, size, Versions::BOTH);
     let mut out = match &header {
         Err(refusal) => format!("refused {} {}", refusal.number, refusal.place.unwrap_or(0)),
+        Ok(header) if asked.guest32 => in_guest(header),
         Ok(header) if pretended.is_some() => accepted(header, Source::Nowhere),
-        Ok(header) => accepted(header, Source::of(&bytes, through_reader)),
+        Ok(header) => accepted(header, Source::of(&bytes, asked.through_reader)),
     };
-    if conversions {
+    if asked.conversions {
         out += &header.map_or(String::new(), |header| format!(" written={}", hex(&header.write())));
         out += &format!(" widen={} narrow={}", converted(widen(&bytes, size)), converted(narrow(&bytes, size)));
     }
     out
 }
 
+/// What the command line asks for.
+struct Asked {
+    through_reader: bool,
+    conversions: bool,
+    guest32: bool,
+}
+
 fn main() -> io::Result<()> {
-    let asked = |flag: &str| std::env::args().any(|argument| argument == flag);
-    let (through_reader, conversions) = (asked("--reader"), asked("--converted"));
+    let flag = |flag: &str| std::env::args().any(|argument| argument == flag);
+    let asked =
+        Asked { through_reader: flag("--reader"), conversions: flag("--converted"), guest32: flag("--guest32") };
     let mut out = io::BufWriter::new(io::stdout().lock());
     for line in io::stdin().lock().lines() {
-        writeln!(out, "{}", answer(&line?, through_reader, conversions))?;
+        writeln!(out, "{}", answer(&line?, &asked))?;
     }
     out.flush()
 }
