@@ -1,13 +1,24 @@
 //! fungal: what people ask of NetCDF-3 files. Every answer about a file comes from the proved library, by the crate `fungalcove`.
 
+mod brief;
+mod cdl;
 mod check;
 mod cli;
+mod compare;
+mod convert;
+mod explain;
 mod failure;
 mod folders;
 mod help;
 mod input;
 mod man;
 mod numbers;
+mod partial;
+mod plot;
+mod show;
+mod stat;
+mod suspect;
+mod values;
 
 use clap::ArgMatches;
 use failure::{Failure, Status};
@@ -30,6 +41,12 @@ fn main() -> ExitCode {
 fn run(name: &str, asked: &ArgMatches) -> Result<Status, Failure> {
     match name {
         "check" => check::run(asked),
+        "show" => show::run(asked),
+        "explain" => explain::run(asked),
+        "widen" => convert::widen(asked),
+        "narrow" => convert::narrow(asked),
+        "compare" => compare::run(asked),
+        "suspect" => suspect::run(asked),
         _ => help::run(asked),
     }
 }

@@ -1,0 +1,157 @@
+//! Which item breaks a rule that is judged after the grammar: 11 to 15.
+//!
+//! That one is broken the proved reader has said; here the first item that breaks it is found, in the order of the file.
+
+use crate::brief::{self, TYPES};
+use crate::explain::fault::Fault;
+use crate::explain::said::{Named, Said, Variable};
+use std::ops::Range;
+
+/// 2^60 and 2^62, the limits of 12 and 15.
+const LARGEST: u128 = 1 << 60;
+const FURTHEST: u128 = 1 << 62;
+
+const NAMES: &str = "no name is empty or twice in its list";
+
+/// 11: the model rules, of dimensions, global attributes, and each variable with its attributes.
+pub fn model(file: &[u8], said: &Said) -> Option<Fault> {
+    let dimensions = || dimension(file, said);
+    let globals = || said.attributes.first().and_then(|list| names(file, list));
+    let variables = || (0..said.variables.len()).find_map(|i| variable(file, said, i));
+    dimensions().or_else(globals).or_else(variables)
+}
+
+/// What is wrong with the name of the i-th item of a list.
+fn name<'a>(file: &[u8], list: impl Iterator<Item = &'a Named>, i: usize) -> Option<Fault> {
+    let items: Vec<&Named> = list.take(i + 1).collect();
+    let (item, before) = items.split_last()?;
+    let bytes = &file[item.name.clone()];
+    let shown = item.bytes.start..item.name.end;
+    if bytes.is_empty() {
+        let word = item.bytes.start..item.bytes.start + 4;
+        return Some(Fault::new(
+            NAMES,
+            word.clone(),
+            word,
+            format!("the item at byte {} has no name", item.bytes.start),
+        ));
+    }
+    let first = before.iter().find(|other| file[other.name.clone()] == *bytes)?;
+    let why = format!("{} is already the name of the item at byte {}", brief::text(bytes), first.bytes.start);
+    Some(Fault::new(NAMES, shown, item.name.clone(), why))
+}
+
+fn names(file: &[u8], list: &[Named]) -> Option<Fault> {
+    (0..list.len()).find_map(|i| name(file, list.iter(), i))
+}
+
+fn dimension(file: &[u8], said: &Said) -> Option<Fault> {
+    let named = || said.dimensions.iter().map(|dimension| &dimension.named);
+    let unlimited = |i: usize| said.dimensions[i].length == 0;
+    let second = |i: usize| {
+        let first = (0..i).find(|before| unlimited(*before)).filter(|_| unlimited(i))?;
+        let at = said.dimensions[i].named.bytes.clone();
+        let why = format!("the dimension at byte {} is unlimited too", said.dimensions[first].named.bytes.start);
+        Some(Fault::new("at most one dimension is unlimited", at.clone(), at.end - 4..at.end, why))
+    };
+    (0..said.dimensions.len()).find_map(|i| name(file, named(), i).or_else(|| second(i)))
+}
+
+/// A variable's own name and ids, then the names of its attributes.
+fn variable(file: &[u8], said: &Said, i: usize) -> Option<Fault> {
+    let named = said.variables.iter().map(|variable| &variable.named);
+    name(file, named, i)
+        .or_else(|| ids(said, &said.variables[i]))
+        .or_else(|| said.attributes.get(i + 1).and_then(|list| names(file, list)))
+}
+
+fn ids(said: &Said, variable: &Variable) -> Option<Fault> {
+    // the ids stand behind the name, its padding, and their number
+    let first = variable.named.name.end + (4 - variable.named.name.len() % 4) % 4 + 4;
+    let word = |k: usize| first + 4 * k..first + 4 * k + 4;
+    let all = first - 4..first + 4 * variable.ids.len();
+    let count = said.dimensions.len();
+    let ids = || variable.ids.iter().enumerate();
+    if let Some((k, id)) = ids().find(|(_, id)| **id as usize >= count) {
+        let why = format!("there is no dimension {}: the file has {}", id, count);
+        return Some(Fault::new("every id is below the number of dimensions", all, word(k), why));
+    }
+    let (k, _) = ids().skip(1).find(|(_, id)| said.dimensions[**id as usize].length == 0)?;
+    let why = format!("the unlimited dimension is number {} of this variable, counted from 0", k);
+    Some(Fault::new("the unlimited dimension stands only first in a variable", all, word(k), why))
+}
+
+/// 12: a begin, a chunk, or the sum of the chunks of a record.
+pub fn sizes(file: &[u8], said: &Said) -> Option<Fault> {
+    let one = said.variables.iter().find_map(|variable| {
+        if variable.begin < 0 || variable.begin as u128 > FURTHEST {
+            let why = format!("{} begins at {}", named(file, variable), variable.begin);
+            return Some((variable, "a begin is not negative and at most 2^62", why));
+        }
+        let why = format!("a record of {} has more than 2^60 bytes", named(file, variable));
+        Some((variable, "a padded chunk has at most 2^60 bytes", why)).filter(|_| padded(said, variable) > LARGEST)
+    });
+    let begin = |variable: &Variable| variable.begin_bytes.clone();
+    match one {
+        Some((variable, rule, why)) => Some(Fault::new(rule, begin(variable), begin(variable), why)),
+        None => {
+            let why = format!("the records have {} bytes each", record_size(said));
+            Some(Fault::new("the record size is at most 2^60", 0..0, 0..0, why)).filter(|_| record_size(said) > LARGEST)
+        }
+    }
+}
+
+/// 13 and 14: how the record count follows from the size.
+pub fn count(said: &Said, size: u64) -> Option<Fault> {
+    let (begin, step) = (first_begin(said)?, record_size(said));
+    let rule = "numrecs left open: (size - smallest record begin) / record size";
+    let why = match u128::from(size).checked_sub(begin) {
+        None => format!("the size, {}, lies below the first record's begin, {}", size, begin),
+        Some(bytes) => format!("({} - {}) / {} leaves a rest of {} bytes", size, begin, step, bytes % step),
+    };
+    // the count word is what leaves it open
+    Some(Fault::new(rule, 4..8, 4..8, why))
+}
+
+/// 15: the first variable that ends above 2^62.
+pub fn ends(file: &[u8], said: &Said, size: u64) -> Option<Fault> {
+    let step = record_size(said);
+    let word = u128::from(super::walk::number(&file[4..8]));
+    let opened = || first_begin(said).map_or(0, |begin| (u128::from(size) - begin) / step);
+    let records = if word == 0xFFFF_FFFF { opened() } else { word };
+    let end = |variable: &&Variable| match (is_record(said, variable), records) {
+        (true, 0) => variable.begin as u128,
+        (true, _) => {
+            (variable.begin as u128).saturating_add((records - 1).saturating_mul(step)) + padded(said, variable)
+        }
+        (false, _) => variable.begin as u128 + padded(said, variable),
+    };
+    let variable = said.variables.iter().find(|variable| end(variable) > FURTHEST)?;
+    let why = format!("{} ends at {}, with {} records", named(file, variable), end(&variable), records);
+    let bytes: Range<usize> = variable.begin_bytes.clone();
+    Some(Fault::new("no variable ends above 2^62", bytes.clone(), bytes, why))
+}
+
+fn named(file: &[u8], variable: &Variable) -> String {
+    brief::text(&file[variable.named.name.clone()])
+}
+
+fn is_record(said: &Said, variable: &Variable) -> bool {
+    variable.ids.first().map_or(false, |id| said.dimensions[*id as usize].length == 0)
+}
+
+/// The bytes of a record, padded; so many that nothing has more, where they are too many to count.
+fn padded(said: &Said, variable: &Variable) -> u128 {
+    let lengths = variable.ids.iter().map(|id| u128::from(said.dimensions[*id as usize].length)).filter(|n| *n > 0);
+    let bytes = lengths.fold(TYPES[variable.code as usize].size as u128, |bytes, length| bytes.saturating_mul(length));
+    bytes.saturating_add((4 - bytes % 4) % 4)
+}
+
+fn record_size(said: &Said) -> u128 {
+    let records = said.variables.iter().filter(|variable| is_record(said, variable));
+    records.fold(0, |size, variable| size.saturating_add(padded(said, variable)))
+}
+
+fn first_begin(said: &Said) -> Option<u128> {
+    said.variables.iter().filter(|variable| is_record(said, variable)).map(|variable| variable.begin as u128).min()
+}
