@@ -139,20 +139,22 @@ def why_wrong_fault(file, explained, number, place):
     return None
 
 
-def explain(command, batch, folder):
-    """What is printed of each file of a batch."""
-    names = []
-    for i, file in enumerate(batch):
-        names.append(os.path.join(folder, "%d.nc" % i))
-        with open(names[-1], "wb") as out:
-            out.write(file)
+def explain(command, names):
+    """What is printed of each file."""
     told = subprocess.run([*command, "explain", *names], stdout=subprocess.PIPE).stdout.decode()
-    for name, file in zip(names, batch):
-        heading = "%s, %d bytes\n" % (name, len(file))
-        assert told.startswith(heading), "no heading for %s" % file.hex()
-        end = told.find("\n" + folder, len(heading) - 1)
-        yield Explained(told[len(heading) : end if end >= 0 else len(told)].splitlines())
-        told = told[end + 1 :]
+    headings = ["%s, %d bytes\n" % (name, os.path.getsize(name)) for name in names]
+    starts = [told.index(heading) for heading in headings]
+    for heading, start, end in zip(headings, starts, starts[1:] + [len(told)]):
+        yield Explained(told[start + len(heading) : end].splitlines())
+
+
+def put(folder, batch, first):
+    """Names that were not used before: to write a file anew may wait for the disk."""
+    for i, file in enumerate(batch, first):
+        name = os.path.join(folder, "%d.nc" % i)
+        with open(name, "wb") as out:
+            out.write(file)
+        yield name
 
 
 def main(arguments):
@@ -165,7 +167,7 @@ def main(arguments):
     with tempfile.TemporaryDirectory() as folder:
         for first in range(0, len(made), BATCH):
             batch = made[first : first + BATCH]
-            for file, explained in zip(batch, explain(arguments, batch, folder)):
+            for file, explained in zip(batch, explain(arguments, list(put(folder, batch, first)))):
                 why = why_wrong(file, explained)
                 ranges += len(explained.leaves())
                 wrong += [(file.hex(), why)] if why else []
