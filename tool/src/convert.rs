@@ -5,18 +5,21 @@ use crate::partial::Partial;
 use clap::ArgMatches;
 use fungalcove::{narrow_file, widen_file, Error};
 use std::fs::{self, File};
-use std::io;
+use std::io::{self, BufWriter};
 use std::path::{Path, PathBuf};
 
 /// Writes the new version of a file, and answers its size.
 type Conversion = fn(File, &mut Partial) -> Result<u64, Error>;
 
+/// How many bytes are copied at a time.
+const PIECE: usize = 1 << 18;
+
 pub fn widen(asked: &ArgMatches) -> Result<Status, Failure> {
-    convert(asked, |old, new| widen_file(old, new))
+    convert(asked, |old, new| widen_file(old, BufWriter::with_capacity(PIECE, new)))
 }
 
 pub fn narrow(asked: &ArgMatches) -> Result<Status, Failure> {
-    convert(asked, |old, new| narrow_file(old, new))
+    convert(asked, |old, new| narrow_file(old, BufWriter::with_capacity(PIECE, new)))
 }
 
 fn convert(asked: &ArgMatches, conversion: Conversion) -> Result<Status, Failure> {

@@ -69,6 +69,9 @@ impl fmt::Display for Failure {
             Failure::Refused(file, refusal) => {
                 write!(f, "{}: {}\n  {}", file, refusal, numbers::advice(refusal.number))
             }
+            Failure::Io(file, error) if error.kind() == io::ErrorKind::UnexpectedEof => {
+                write!(f, "{}: became shorter while it was read", file)
+            }
             Failure::Io(file, error) => write!(f, "{}: {}", file, error),
             Failure::Said(words) => f.write_str(words),
             Failure::Output(error) => write!(f, "the output can't be written: {}", error),

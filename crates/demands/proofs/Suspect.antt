@@ -20,7 +20,7 @@ use Rattle.sizes.proofs.Laws.Records.{begin-in}
 use Rattle.sizes.proofs.Laws.Count.{records-positive}
 use Rattle.reads.specs.Sought.{tablesHold}
 use Rattle.reads.proofs.Laws.Sought.{tables-parts}
-use Rattle.guest32.specs.Guest.{word32, low32, guestStep, guestFirst, guestRest, guestCount, elsewhere, cutShort, firstForeign, firstCut, guest32}
+use Rattle.guest32.specs.Guest.{word32, low32, guestStep, guestFirst, guestRest, opened, guestCount, elsewhere, cutShort, firstForeign, firstCut, guest32}
 use Rattle.guest32.proofs.Laws.Guest.{step-low, elsewhere-is, cut-is, cut-not, guest-counted}
 use Rattle.header.specs.declared.reader.Header.{Header}
 use Rattle.header.proofs.Laws.Accepted.{accepted-came, same-count}
@@ -75,7 +75,7 @@ module _ (t : Tables) (hold : tablesHold t ≡ true) (low : Below32 t) where
       omega arith
 
   count-agrees : {n p : ℕ} → got n p ≡ recordCount t → got n 0 ≡ guestCount t
-  unfolding recordCount guestCount
+  unfolding recordCount guestCount opened
   count-agrees {n} {p} e = by (hasUnlimited t) refl (isOpen t) refl (hasRecords t) refl
     where
       by : (u : Bool) → hasUnlimited t ≡ u → (o : Bool) → isOpen t ≡ o → (r : Bool) → hasRecords t ≡ r → got n 0 ≡ guestCount t

@@ -27,14 +27,20 @@ isOpen t = eqb (t .word) (indeterminate (form (t .version) .wordBytes))
 unfoldable pub firstBegin : Tables → ℕ
 firstBegin t = smallest (λ i. isRecord (t .dims) (varAt t i)) (λ i. varAt t i .begin) maxPosition (t .nvars)
 
--- "the word; if indeterminate, 0 where no unlimited dimension or no record variable exists, else (size − smallest record begin) divided by
--- record size. No unlimited dimension: count 0." 14 where the size lies below that begin, 13 where the division leaves a rest. With a record
--- variable the record size is above 0
-unfoldable pub recordCount : Tables → Step ℕ
-recordCount t =
+-- "the word; if indeterminate, 0 where no unlimited dimension or no record variable exists, else" the count that is opened by the file's size. "No unlimited
+-- dimension: count 0."
+abbrev pub countOr : Tables → Step ℕ → Step ℕ
+countOr t opened =
     unless (hasUnlimited t) (got 0 0) (
     unless (isOpen t) (got (t .word) 0) (
-    unless (hasRecords t) (got 0 0) (
+    unless (hasRecords t) (got 0 0)
+    opened))
+
+-- "(size − smallest record begin) divided by record size". 14 where the size lies below that begin, 13 where the division leaves a rest. With a
+-- record variable the record size is above 0
+unfoldable pub recordCount : Tables → Step ℕ
+recordCount t =
+    countOr t (
     need (leb (firstBegin t) (t .size)) 14 0 (
     need (eqb ((t .size - firstBegin t) % recordSize t) 0) 13 0 (
-    got ((t .size - firstBegin t) / recordSize t) 0)))))
+    got ((t .size - firstBegin t) / recordSize t) 0)))

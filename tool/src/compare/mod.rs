@@ -120,10 +120,11 @@ impl Compared<'_> {
                 let (a_ends, b_ends) = (part_a.is_empty(), part_b.is_empty());
                 return Ok(self.ended(pair, record, a_ends, b_ends));
             }
-            match (0..n).find(|i| part_a[*i] != part_b[*i]) {
-                None => same += n as u64,
-                Some(i) => return self.element(pair, record, (same + i as u64) / pair.a.data_type().size()).map(Some),
+            if part_a[..n] != part_b[..n] {
+                let alike = part_a.iter().zip(part_b).take_while(|(a, b)| a == b).count() as u64;
+                return self.element(pair, record, (same + alike) / pair.a.data_type().size()).map(Some);
             }
+            same += n as u64;
         }
         Ok(None)
     }

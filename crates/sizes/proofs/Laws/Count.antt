@@ -18,9 +18,11 @@ use Rattle.model.specs.Model.{isUnlimited, idsHold}
 use Rattle.model.specs.Inner.Unlimited.{unlimited}
 use Rattle.sizes.specs.Inner.Sizes.{placed, divided, capped, largest, firstEnd, fixedEnds, fixedEndsHold, recordEnd, added, stillHolds, endsIn, sizesOf}
 use Rattle.sizes.specs.Records.{smallest, total, isRecord, paddedBytes, recordPart, recordSize, maxPosition, maxChunk, sizesHold, endOf, endsHold}
-use Rattle.sizes.specs.Count.{hasUnlimited, hasRecords, firstBegin, recordCount}
+use Rattle.sizes.specs.Count.{hasUnlimited, hasRecords, isOpen, firstBegin, countOr, recordCount}
 use Rattle.grammar.specs.declared.tables.Tables.{Tables}
 use Rattle.sizes.specs.declared.records.Sizes.{Sizes}
+use Rattle.sizes.specs.declared.count.Known.{Known}
+use Rattle.sizes.specs.declared.count.Known.the-variants.{Count, Open}
 use Rattle.sizes.proofs.Laws.Records.{part, padded-pos, capped-same, capped-both, total-more, still-is, still-step, placed-if, sizes-begin, sizes-chunk, sizes-sum, begin-in, largest-above, largest-below, never}
 
 module _ (t : Tables) where
@@ -187,23 +189,29 @@ module _ (t : Tables) where
   unfolding hasUnlimited unlimited
   unlimited-yes h = any-first (isUnlimited t) (t .ndims) h
 
-  pub count-fixed : t .ndims ≤ unlimited t → got 0 0 ≡ recordCount t
-  unfolding recordCount
-  count-fixed h = by-false _ (unlimited-no h) refl
+  -- a count that is given, and one that is opened by the size, whatever that comes to
+  module _ (x : Step ℕ) where
+    pub count-fixed : t .ndims ≤ unlimited t → got 0 0 ≡ countOr t x
+    count-fixed h = by-false _ (unlimited-no h) refl
 
-  module _ (has : unlimited t < t .ndims) where
-    pub count-word : (t .word ≡ 4294967295 → ⊥) → got (t .word) 0 ≡ recordCount t
-    unfolding recordCount
-    count-word n = by-true _ (unlimited-yes has) (by-false _ (ne-eqb (t .word) 4294967295 n) refl)
+    module _ (has : unlimited t < t .ndims) where
+      pub count-word : (t .word ≡ 4294967295 → ⊥) → got (t .word) 0 ≡ countOr t x
+      count-word n = by-true _ (unlimited-yes has) (by-false _ (ne-eqb (t .word) 4294967295 n) refl)
 
-    module _ (isopen : t .word ≡ 4294967295) where
-      pub count-none : hasRecords t ≡ false → got 0 0 ≡ recordCount t
-      unfolding recordCount
-      count-none e = by-true _ (unlimited-yes has) (by-true _ (eq-eqb (t .word) 4294967295 isopen) (by-false _ e refl))
+      module _ (isopen : t .word ≡ 4294967295) where
+        pub count-none : hasRecords t ≡ false → got 0 0 ≡ countOr t x
+        count-none e = by-true _ (unlimited-yes has) (by-true _ (eq-eqb (t .word) 4294967295 isopen) (by-false _ e refl))
 
-      pub count-divided : {x : Step ℕ} → hasRecords t ≡ true → x ≡ divided (t .size) (firstBegin t) (recordSize t) → x ≡ recordCount t
-      unfolding recordCount divided
-      count-divided e d = by-true _ (unlimited-yes has) (by-true _ (eq-eqb (t .word) 4294967295 isopen) (by-true _ e d))
+        pub count-opened : hasRecords t ≡ true → x ≡ countOr t x
+        count-opened e = by-true _ (unlimited-yes has) (by-true _ (eq-eqb (t .word) 4294967295 isopen) (by-true _ e refl))
+
+  pub count-is : countOr t (divided (t .size) (firstBegin t) (recordSize t)) ≡ recordCount t
+  unfolding recordCount divided
+  count-is = refl
+
+-- a count that is given is not open
+pub not-open : (n : ℕ) (X : Type 0) → _≡_ {A = Known} (Count n) Open → X
+not-open n X e = let z : _≡_ {A = Bool} false true = cc in never X z
 
 module _ (size first step : ℕ) where
   pub divided-below : size < first → stop 14 0 ≡ divided size first step

@@ -11,11 +11,18 @@ use Rattle.grammar.specs.declared.tables.Tables.{Tables}
 use Rattle.sizes.specs.declared.records.Sizes.{Sizes}
 use Rattle.sizes.specs.declared.count.Counted.{Counted}
 use Rattle.sizes.specs.declared.count.Counted.the-variants.{Records, Refused}
+use Rattle.sizes.specs.declared.count.Known.{Known}
+use Rattle.sizes.specs.declared.count.Known.the-variants.{Count, Open}
 
 -- what the answer of the function that counts means
 abbrev pub ofCounted : Counted → Step ℕ
 ofCounted (Records n) = got n 0
 ofCounted (Refused k) = stop k 0
+
+-- what the answer of the function that looks for a given count means, where x is opened by the file's size
+abbrev pub ofKnown : Known → Step ℕ → Step ℕ
+ofKnown (Count n) x = got n 0
+ofKnown Open x = x
 
 -- the count of an open file: the records of `step` bytes from the first begin up to the size
 unfoldable pub divided : ℕ → ℕ → ℕ → Step ℕ

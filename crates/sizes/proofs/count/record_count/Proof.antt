@@ -1,35 +1,42 @@
-use Rattle.sizes.specs.Inner.Sizes.{divided}
-use Rattle.sizes.specs.declared.records.Sizes.{Sizes}
-use Rattle.sizes.proofs.Laws.Count.{records-some, records-none, count-fixed, count-word, count-none, count-divided}
 use mathlib.Core.Path.{sym, ap, _∙_}
-use native.Mathlib.Omega.{arith}
+use Prim.Native.Nat.{ℕ}
+use Rattle.cdf.specs.Step.{Step}
+use Rattle.sizes.specs.Inner.Sizes.{divided, ofKnown}
+use Rattle.sizes.specs.Count.{firstBegin, countOr}
+use Rattle.sizes.specs.Records.{recordSize}
+use Rattle.sizes.specs.declared.records.Sizes.{Sizes}
+use Rattle.sizes.specs.declared.count.Known.{Known}
+use Rattle.sizes.proofs.Laws.Count.{count-is}
 use borrow.Author.Needs.{needs}
 use Rattle.sizes.proofs.count.record_count.Statement.{statement}
 use Rattle.sizes.proofs.count.record_count.Tie as tie
 
-unlimited-requires : tie.Need-unlimited-requires
-unlimited-requires c κs = search needs
+given-requires : tie.Need-given-requires
+given-requires c κs = let p = c .pre in (p .0, p .1, ap (λ (z : Sizes). z .step) (p .2))
 
-returns : tie.Need-returns
-returns c = count-fixed _ (omega (arith, c .before .before .unlimited .ensures))
+enum-known-n : tie.Need-enum-known-n
+enum-known-n c = search needs
 
-returns-2 : tie.Need-returns-2
-returns-2 c = count-word _ (omega (arith, c .before .before .before .unlimited .ensures)) (c .if2 .taken)
-
-returns-3 : tie.Need-returns-3
-returns-3 c = let p = c .before .before .before .before .before .pre in count-none _ (omega (arith, c .before .before .before .before .unlimited .ensures)) (c .before .if2 .left) (records-none _ (p .0) (p .1) (sym (ap (λ (z : Sizes). z .step) (p .2)) ∙ c .if3 .taken))
+enum-told : tie.Need-enum-told
+enum-told c = search needs
 
 divided-requires : tie.Need-divided-requires
-divided-requires c κs = search needs
+divided-requires c κs = c .before .before .given .ensures .1 (c .enum-told .given .1)
 
-returns-4 : tie.Need-returns-4
-returns-4 c =
-    let t = c .before .before .before .before .before .before .args .t in
-    let p = c .before .before .before .before .before .before .pre in
-    let has = records-some t (p .0) (p .1) (omega (arith, ap (λ (z : Sizes). z .step) (p .2))) in
-    count-divided t (omega (arith, c .before .before .before .before .before .unlimited .ensures)) (c .before .before .if2 .left) has
-    (c .divided .ensures ∙ ap (λ (z : Sizes). divided (t .size) (z .first) (z .step)) (p .2))
+returns : tie.Need-returns
+returns c =
+    let t = c .before .before .before .before .args .t in
+    let x = divided (t .size) (firstBegin t) (recordSize t) in
+    ap (λ (k : Known). ofKnown k x) (sym (c .before .n .given .1)) ∙ c .before .before .before .given .ensures .0 x ∙ count-is t
+
+returns-2 : tie.Need-returns-2
+returns-2 c =
+    let t = c .before .before .before .before .args .t in
+    let x = divided (t .size) (firstBegin t) (recordSize t) in
+    c .divided .ensures
+    ∙ ap (λ (z : Sizes). divided (t .size) (z .first) (z .step)) (c .before .before .before .before .pre .2)
+    ∙ ap (λ (k : Known). ofKnown k x) (sym (c .before .enum-told .given .1)) ∙ c .before .before .before .given .ensures .0 x ∙ count-is t
 
 pub record-count-spec : {M : Type 1} → statement M
 record-count-spec =
-    tie.close (tie.spec unlimited-requires returns returns-2 returns-3 divided-requires returns-4)
+    tie.close (tie.spec given-requires enum-known-n enum-told divided-requires returns returns-2)
