@@ -1,4 +1,6 @@
-//! Types by their codes, and values as short texts.
+//! Places, types by their codes, and values as short texts.
+
+use std::ops::Range;
 
 /// What the grammar calls a type: its tag, a list of its values, and the values without their padding.
 pub struct Type {
@@ -23,23 +25,50 @@ pub const TYPES: [Type; 7] = [
 const SHOWN: usize = 48;
 const NUMBERS: usize = 6;
 
-/// A text in quotes, cut where it is long; bytes that are no characters as `\xDD`.
+/// First and last byte, as `4-7`; `3` for one byte and `-` for none.
+pub fn inclusive(bytes: Range<u64>) -> String {
+    match bytes.end - bytes.start {
+        0 => "-".to_string(),
+        1 => bytes.start.to_string(),
+        _ => format!("{}-{}", bytes.start, bytes.end - 1),
+    }
+}
+
+/// A number of up to 8 bytes, big-endian.
+pub fn number(bytes: &[u8]) -> u64 {
+    bytes.iter().fold(0, |number, byte| number << 8 | u64::from(*byte))
+}
+
+/// A text in quotes, cut where it is long; control characters are escaped, and bytes that are no characters are `\xDD`.
 pub fn text(bytes: &[u8]) -> String {
-    let cut = &bytes[..bytes.len().min(SHOWN)];
-    let shown: String = String::from_utf8_lossy(cut).chars().flat_map(char::escape_debug).collect();
-    let more = if bytes.len() > SHOWN { format!(" .. {} bytes", bytes.len()) } else { String::new() };
+    let (mut shown, mut rest, mut count) = (String::new(), bytes, 0);
+    while !rest.is_empty() && count < SHOWN {
+        let length = first_character(rest);
+        match std::str::from_utf8(&rest[..length]) {
+            Ok(character) => shown.extend(character.chars().flat_map(char::escape_debug)),
+            Err(_) => shown += &format!("\\x{:02X}", rest[0]),
+        }
+        rest = &rest[length..];
+        count += 1;
+    }
+    let more = if rest.is_empty() { String::new() } else { format!(" .. {} bytes", bytes.len()) };
     format!("\"{}\"{}", shown, more)
+}
+
+/// How many bytes the first character has; one where the first byte starts none.
+fn first_character(bytes: &[u8]) -> usize {
+    let most = bytes.len().min(4);
+    (1..=most).find(|n| std::str::from_utf8(&bytes[..*n]).is_ok()).unwrap_or(1)
 }
 
 /// Values of the type of a code.
 pub fn shown(code: u32, bytes: &[u8]) -> String {
-    let bits = |bytes: &[u8]| bytes.iter().fold(0u64, |bits, byte| bits << 8 | u64::from(*byte));
     let one = |bytes: &[u8]| match code {
-        1 => (bits(bytes) as i8).to_string(),
-        3 => (bits(bytes) as i16).to_string(),
-        4 => (bits(bytes) as i32).to_string(),
-        5 => format!("{:?}", f32::from_bits(bits(bytes) as u32)),
-        _ => format!("{:?}", f64::from_bits(bits(bytes))),
+        1 => (number(bytes) as i8).to_string(),
+        3 => (number(bytes) as i16).to_string(),
+        4 => (number(bytes) as i32).to_string(),
+        5 => format!("{:?}", f32::from_bits(number(bytes) as u32)),
+        _ => format!("{:?}", f64::from_bits(number(bytes))),
     };
     if code == 2 {
         return text(bytes);

@@ -1,63 +1,30 @@
 //! `fungal check`: the answer to each file.
 
-use crate::failure::{Failure, Status};
-use crate::folders::{self, Progress};
-use crate::input;
+use crate::failure::{name_of, warn, Failure, Status};
+use crate::folders::{self, Answer, Counts};
+use crate::{input, json};
 use clap::ArgMatches;
 use fungalcove::{Opening, Versions};
 use serde_json::{json, Value};
-use std::io::{self, BufWriter, Write};
-use std::path::{Path, PathBuf};
-
-/// How many files there were, by what became of them.
-#[derive(Default)]
-struct Tally {
-    accepted: u64,
-    refused: u64,
-    unread: u64,
-}
-
-impl Tally {
-    fn files(&self) -> u64 {
-        self.accepted + self.refused + self.unread
-    }
-
-    fn status(&self) -> Status {
-        match self {
-            Tally { unread: 1.., .. } => Status::Unread,
-            Tally { refused: 1.., .. } => Status::Bad,
-            _ => Status::Good,
-        }
-    }
-}
+use std::path::Path;
 
 pub fn run(asked: &ArgMatches) -> Result<Status, Failure> {
-    let versions = admitted(asked);
-    let (recursive, json) = (asked.get_flag("recursive"), asked.get_flag("json"));
-    let named = asked.get_many::<PathBuf>("files").into_iter().flatten();
-    let mut out = BufWriter::new(io::stdout().lock());
-    let mut progress = Progress::new(recursive);
-    let mut tally = Tally::default();
-    for path in folders::files(named, recursive) {
-        progress.step(|| format!("{} files, {} refused", tally.files(), tally.refused));
-        let answer = path.and_then(|path| Ok((input::open(&path, versions)?, path)));
-        match &answer {
-            Ok((Opening { answer: Ok(_), .. }, _)) => tally.accepted += 1,
-            Ok(_) => tally.refused += 1,
-            Err(_) => tally.unread += 1,
-        }
-        progress.print(&mut out, |mut out| match &answer {
-            Ok((opening, path)) => tell(&mut out, path, opening, json),
-            Err(failure) => tell_failure(&mut out, failure, json),
-        })?;
+    let (versions, json) = (admitted(asked), asked.get_flag("json"));
+    let answer = |path: &Path, found: Result<(), Failure>| match found.and_then(|()| input::open(path, versions)) {
+        Ok(opening) if json => Answer::line(json::of_file(path, object(&opening)), status(&opening)),
+        Ok(opening) => Answer::line(line(path, &opening), status(&opening)),
+        Err(failure) if json => Answer::line(json::of_file(path, json::failure(&failure)), Status::Unread),
+        Err(failure) => Answer::failure(failure),
+    };
+    let words = |counts: Counts| format!("{} files, {} refused", counts.all(), counts.of(Status::Bad));
+    let counts = folders::each(asked, answer, words)?;
+    if asked.get_flag("recursive") {
+        warn(summary(counts));
     }
-    out.flush()?;
-    progress.end();
-    if recursive {
-        let Tally { accepted, refused, unread } = tally;
-        eprintln!("{} files: {} accepted, {} refused, {} not read", tally.files(), accepted, refused, unread);
+    if counts.of(Status::Bad) > 0 && !json {
+        warn("`fungal explain FILE` shows what is wrong where, `fungal help numbers` says what to do");
     }
-    Ok(tally.status())
+    Ok(counts.status())
 }
 
 /// The versions of `--admit`.
@@ -69,42 +36,35 @@ pub fn admitted(asked: &ArgMatches) -> Versions {
     }
 }
 
-fn tell(out: &mut impl Write, path: &Path, opening: &Opening, json: bool) -> io::Result<()> {
-    if json {
-        return writeln!(out, "{}", as_json(path, opening));
-    }
-    match &opening.answer {
-        Ok(header) => {
-            let (records, end) = (header.record_count(), header.end());
-            writeln!(out, "{}: 0, {} records, header ends at byte {}", path.display(), records, end)
-        }
-        Err(refusal) => writeln!(out, "{}: {}", path.display(), refusal),
+fn status(opening: &Opening) -> Status {
+    match opening.answer {
+        Ok(_) => Status::Good,
+        Err(_) => Status::Bad,
     }
 }
 
-fn as_json(path: &Path, opening: &Opening) -> Value {
-    let file = path.to_string_lossy();
+fn summary(counts: Counts) -> String {
+    let [accepted, refused, unread] = [Status::Good, Status::Bad, Status::Unread].map(|status| counts.of(status));
+    format!("{} files: {} accepted, {} refused, {} not read", counts.all(), accepted, refused, unread)
+}
+
+fn line(path: &Path, opening: &Opening) -> String {
+    match &opening.answer {
+        Ok(header) => {
+            format!("{}: 0, {} records, header ends at byte {}", name_of(path), header.record_count(), header.end())
+        }
+        Err(refusal) => format!("{}: {}", name_of(path), refusal),
+    }
+}
+
+fn object(opening: &Opening) -> Value {
     match &opening.answer {
         Ok(header) => json!({
-            "file": file, "size": opening.size, "number": 0, "words": "accepted", "version": header.version().number(),
+            "size": opening.size, "number": 0, "words": "accepted", "version": header.version().number(),
             "records": header.record_count(), "end": header.end(),
         }),
         Err(refusal) => json!({
-            "file": file, "size": opening.size, "number": refusal.number, "words": refusal.words(),
-            "place": refusal.place,
+            "size": opening.size, "number": refusal.number, "words": refusal.words(), "place": refusal.place,
         }),
-    }
-}
-
-/// A file that could not be read: an object like the others, or a line on standard error.
-fn tell_failure(out: &mut impl Write, failure: &Failure, json: bool) -> io::Result<()> {
-    match failure {
-        Failure::Io(file, error) if json => {
-            writeln!(out, "{}", json!({ "file": file, "error": error.to_string() }))
-        }
-        _ => {
-            failure.report();
-            Ok(())
-        }
     }
 }

@@ -4,15 +4,18 @@ use crate::failure::{Failure, Status};
 use crate::partial::Partial;
 use clap::ArgMatches;
 use fungalcove::{narrow_file, widen_file, Error};
-use std::fs::{self, File};
+use std::fs::{self, File, Metadata, Permissions};
 use std::io::{self, BufWriter};
+use std::os::unix::fs::{MetadataExt, PermissionsExt};
 use std::path::{Path, PathBuf};
-
-/// Writes the new version of a file, and answers its size.
-type Conversion = fn(File, &mut Partial) -> Result<u64, Error>;
 
 /// How many bytes are copied at a time.
 const PIECE: usize = 1 << 18;
+/// The permissions among a file's mode.
+const PERMISSIONS: u32 = 0o777;
+
+/// Writes the new version of a file, and answers its size.
+type Conversion = fn(File, &mut Partial) -> Result<u64, Error>;
 
 pub fn widen(asked: &ArgMatches) -> Result<Status, Failure> {
     convert(asked, |old, new| widen_file(old, BufWriter::with_capacity(PIECE, new)))
@@ -24,39 +27,44 @@ pub fn narrow(asked: &ArgMatches) -> Result<Status, Failure> {
 
 fn convert(asked: &ArgMatches, conversion: Conversion) -> Result<Status, Failure> {
     let path = |id: &str| asked.get_one::<PathBuf>(id).expect("clap asks for it");
-    let (old, new, force) = (path("in"), path("out"), asked.get_flag("force"));
-    let file = File::open(old).map_err(|error| Failure::of(old, error))?;
-    refuse_same(&file, old, new)?;
-    if !force && fs::symlink_metadata(new).is_ok() {
-        return Err(taken(new));
+    let (old, new) = (path("in"), path("out"));
+    // looked at before it is opened: to open a pipe may take for ever
+    let metadata = fs::metadata(old).map_err(|error| Failure::of(old, error))?;
+    if !metadata.is_file() {
+        return Err(Failure::said(old, "is no file; save the input to one first"));
     }
-    // what fails from here on is told of the file that it is about, and leaves nothing behind
-    let mut partial = Partial::beside(new).map_err(|error| Failure::of(new, error))?;
+    let file = File::open(old).map_err(|error| Failure::of(old, error))?;
+    let (target, replaced) = target(new, &metadata, asked.get_flag("force"))?;
+    let mut partial = Partial::new(&target, metadata.mode() & PERMISSIONS);
     conversion(file, &mut partial).map_err(|error| blame(error, old, new, &partial))?;
-    match partial.keep(force) {
+    match partial.keep(replaced) {
         Err(error) if error.kind() == io::ErrorKind::AlreadyExists => Err(taken(new)),
         kept => kept.map_err(|error| Failure::of(new, error)),
     }?;
     Ok(Status::Good)
 }
 
-fn taken(new: &Path) -> Failure {
-    Failure::Said(format!("{}: is there already; -f replaces it", new.display()))
+/// Where the new file goes, and the permissions of the one that it replaces. A link is followed, so that it stays one.
+fn target(new: &Path, old: &Metadata, force: bool) -> Result<(PathBuf, Option<Permissions>), Failure> {
+    if fs::symlink_metadata(new).is_err() {
+        return Ok((new.to_path_buf(), None));
+    }
+    let there = fs::metadata(new).map_err(|error| Failure::of(new, error))?;
+    if (there.dev(), there.ino()) == (old.dev(), old.ino()) {
+        return Err(Failure::said(new, "is the file that is converted; choose another OUT"));
+    }
+    if !there.is_file() {
+        return Err(Failure::said(new, "is no file that could be replaced; choose another OUT"));
+    }
+    if !force {
+        return Err(taken(new));
+    }
+    let target = fs::canonicalize(new).map_err(|error| Failure::of(new, error))?;
+    Ok((target, Some(Permissions::from_mode(there.mode() & PERMISSIONS))))
 }
 
-/// The file that is read is never written, also not by another of its names.
-fn refuse_same(file: &File, old: &Path, new: &Path) -> Result<(), Failure> {
-    use std::os::unix::fs::MetadataExt;
-    let id = |metadata: fs::Metadata| (metadata.dev(), metadata.ino());
-    let same = match (file.metadata(), fs::metadata(new)) {
-        (Ok(old), Ok(new)) => id(old) == id(new),
-        _ => false,
-    };
-    if same {
-        let words = format!("{} and {} are one file; choose another OUT", old.display(), new.display());
-        return Err(Failure::Said(words));
-    }
-    Ok(())
+fn taken(new: &Path) -> Failure {
+    Failure::said(new, "is there already; -f replaces it")
 }
 
 /// A refusal is about the old file; other errors are about the one that failed.

@@ -2,8 +2,8 @@
 
 use crate::numbers;
 use fungalcove::{Error, Refusal};
-use std::fmt;
-use std::io;
+use std::fmt::{self, Display};
+use std::io::{self, Write};
 use std::path::Path;
 use std::process::ExitCode;
 
@@ -40,11 +40,15 @@ pub enum Failure {
 impl Failure {
     /// Of a file that a function of the library failed on.
     pub fn of(file: &Path, error: impl Into<Error>) -> Failure {
-        let name = file.display().to_string();
         match error.into() {
-            Error::Refused(refusal) => Failure::Refused(name, refusal),
-            Error::Io(error) => Failure::Io(name, error),
+            Error::Refused(refusal) => Failure::Refused(name_of(file), refusal),
+            Error::Io(error) => Failure::Io(name_of(file), error),
         }
+    }
+
+    /// Of a file that is not what is wanted.
+    pub fn said(file: &Path, words: &str) -> Failure {
+        Failure::Said(format!("{}: {}", name_of(file), words))
     }
 
     pub fn status(&self) -> Status {
@@ -58,24 +62,40 @@ impl Failure {
     pub fn report(&self) {
         match self {
             Failure::Output(error) if error.kind() == io::ErrorKind::BrokenPipe => (),
-            _ => eprintln!("fungal: {}", self),
+            _ => warn(self),
         }
     }
 }
 
-impl fmt::Display for Failure {
+/// Words on standard error; where nobody reads them there is nothing to be done.
+pub fn warn(words: impl Display) {
+    let _ = writeln!(io::stderr(), "fungal: {}", words);
+}
+
+/// A file's name on one line: what would end the line, or move about the terminal, is escaped.
+pub fn name_of(file: &Path) -> String {
+    let escaped = |c: char| if c.is_control() { c.escape_debug().to_string() } else { c.to_string() };
+    file.to_string_lossy().chars().map(escaped).collect()
+}
+
+impl Display for Failure {
     fn fmt(&self, f: &mut fmt::Formatter<'_>) -> fmt::Result {
         match self {
             Failure::Refused(file, refusal) => {
                 write!(f, "{}: {}\n  {}", file, refusal, numbers::advice(refusal.number))
             }
-            Failure::Io(file, error) if error.kind() == io::ErrorKind::UnexpectedEof => {
-                write!(f, "{}: became shorter while it was read", file)
-            }
-            Failure::Io(file, error) => write!(f, "{}: {}", file, error),
+            Failure::Io(file, error) => write!(f, "{}: {}", file, words(error)),
             Failure::Said(words) => f.write_str(words),
             Failure::Output(error) => write!(f, "the output can't be written: {}", error),
         }
+    }
+}
+
+/// An error's own words, where they say something of the file.
+pub fn words(error: &io::Error) -> String {
+    match error.kind() {
+        io::ErrorKind::UnexpectedEof => "became shorter while it was read".to_string(),
+        _ => error.to_string(),
     }
 }
 

@@ -16,13 +16,19 @@ pub fn advice(number: u8) -> &'static str {
         7 => "in a header the bytes that fill up to four are zero; some old writers leave there what was in memory",
         8 => "the types are 1 to 6; those from 7 up belong to CDF-5",
         9 => "what should start a list starts none: the header is damaged, `fungal explain` shows where",
-        10 => "at most 32 dimensions, 64 variables, 128 attributes in all, 8 dimensions a variable, 256 bytes a name",
+        10 => {
+            "the file may be in order, but this reader has no room for more than 32 dimensions, 64 variables, 128 \
+               attributes in all, 8 dimensions a variable and 256 bytes a name"
+        }
         11 => {
             "a name is empty or twice in its list, two dimensions are unlimited, an id names no dimension, or the \
                unlimited dimension is not a variable's first; `fungal explain` names the item"
         }
         12 => "a place or a size that no file has: the header is damaged, `fungal explain` names the variable",
-        13 => "the count is left open, and the file ends inside a record: it was cut off, or bytes follow the last one",
+        13 => {
+            "the count is left open, and the file ends inside a record: it was cut off, or bytes follow the last one; \
+               or its only record variable has bytes, characters or shorts, which netCDF's library does not pad"
+        }
         14 => "the count is left open, and the file ends before its first record: it was cut off",
         15 => "the count or a place is out of all proportion: the header is damaged",
         16 => "`fungal show FILE` lists the variables; names are spelled as in the file",
@@ -31,7 +37,10 @@ pub fn advice(number: u8) -> &'static str {
             "records count from 0; `fungal show FILE` says how many there are, and a fixed variable has record 0 only"
         }
         19 => "elements count from 0, inside a record",
-        20 => "the file ends before these values: it was cut off",
+        20 => {
+            "the file ends before these values: it was cut off, or its only record variable has bytes, characters or \
+               shorts, which netCDF's library does not pad"
+        }
         21 => "no file of more than 2^62 bytes is read",
         22 => "the output that is lent has too little room",
         23 => "the tables were changed since they were read",
@@ -41,11 +50,34 @@ pub fn advice(number: u8) -> &'static str {
     }
 }
 
+/// How wide the table is.
+const WIDTH: usize = 90;
+
 /// All numbers, with their words and what to do.
 pub fn print(out: &mut impl Write) -> io::Result<()> {
     writeln!(out, "Every answer has a number. A header's refusal, 1 to 10, has the place of the byte as well.\n")?;
     for (number, words) in Refusal::table() {
-        writeln!(out, "{:3}  {}\n     {}", number, words, advice(number))?;
+        writeln!(out, "{:3}  {}", number, words)?;
+        for line in wrapped(advice(number)) {
+            writeln!(out, "     {}", line)?;
+        }
     }
     Ok(())
+}
+
+/// Words in lines that are no longer than the table is wide.
+fn wrapped(words: &str) -> Vec<String> {
+    let mut lines = vec![String::new()];
+    for word in words.split_whitespace() {
+        let line = lines.last_mut().expect("one to begin with");
+        if line.is_empty() {
+            line.push_str(word);
+        } else if line.len() + 1 + word.len() <= WIDTH {
+            line.push(' ');
+            line.push_str(word);
+        } else {
+            lines.push(word.to_string());
+        }
+    }
+    lines
 }

@@ -1,11 +1,10 @@
 //! `fungal show`: a header as CDL, the values of a variable, or what they come to.
 
-use crate::failure::{Failure, Status};
+use crate::failure::{name_of, Failure, Status};
 use crate::values::{Shown, Stored};
-use crate::{cdl, input, stat};
+use crate::{cdl, input, lonely, stat};
 use clap::ArgMatches;
-use fungalcove::{DataType, Header, Refusal, Value, Variable, Versions};
-use std::fs;
+use fungalcove::{DataType, Header, Opening, Refusal, Value, Variable, Versions};
 use std::io::{self, BufWriter, Write};
 use std::ops::Range;
 use std::os::unix::ffi::OsStrExt;
@@ -13,34 +12,42 @@ use std::path::{Path, PathBuf};
 
 pub fn run(asked: &ArgMatches) -> Result<Status, Failure> {
     let path = asked.get_one::<PathBuf>("file").expect("the command line has a file");
-    let (values, stat) = (asked.get_one::<String>("values"), asked.get_one::<String>("stat"));
-    if values.is_some() || stat.is_some() {
-        refuse_streams(path)?;
-    }
-    let (opening, file) = input::open_file(path, Versions::BOTH)?;
-    let header = opening.answer.map_err(|refusal| Failure::of(path, refusal))?;
-    let stored = |variable| Stored::new(path, &file, opening.size, variable);
     let mut out = BufWriter::new(io::stdout().lock());
-    let shown = match (values, stat) {
-        (Some(wanted), _) => {
-            find(&header, path, wanted).and_then(|(variable, records)| print(&mut out, stored(variable), records))
-        }
-        (_, Some(name)) => named(&header, path, name).and_then(|variable| stat::print(&mut out, stored(variable))),
-        _ => cdl::write_header(&mut out, data_set_name(path), &header).map_err(Failure::from),
+    let shown = match (asked.get_one::<String>("values"), asked.get_one::<String>("stat")) {
+        (Some(wanted), _) => show_values(&mut out, path, wanted),
+        (_, Some(name)) => show_stat(&mut out, path, name),
+        _ => show_header(&mut out, path),
     };
     // what was printed before a refusal comes before it
     out.flush()?;
     shown.map(|()| Status::Good)
 }
 
-/// Values are sought in the file, and a stream can't be sought.
-fn refuse_streams(path: &Path) -> Result<(), Failure> {
-    let is_stream = path == Path::new(input::STDIN) || fs::metadata(path).map_or(false, |found| !found.is_file());
-    if is_stream && !path.is_dir() {
-        let words = "values are read out of files only; save the input to a file first";
-        return Err(Failure::Said(format!("{}: {}", path.display(), words)));
-    }
-    Ok(())
+fn show_header(out: &mut impl Write, path: &Path) -> Result<(), Failure> {
+    let header = accepted(path, input::open(path, Versions::BOTH)?)?;
+    Ok(cdl::write_header(out, data_set_name(path), &header)?)
+}
+
+fn show_values(out: &mut impl Write, path: &Path, wanted: &str) -> Result<(), Failure> {
+    let (opening, file) = input::open_sought(path)?;
+    let size = opening.size;
+    let header = accepted(path, opening)?;
+    let (variable, records) = find(&header, path, wanted)?;
+    lonely::caution(path, &header, Some(&variable));
+    print(out, Stored::new(path, &file, size, variable), records)
+}
+
+fn show_stat(out: &mut impl Write, path: &Path, name: &str) -> Result<(), Failure> {
+    let (opening, file) = input::open_sought(path)?;
+    let size = opening.size;
+    let header = accepted(path, opening)?;
+    let variable = named(&header, path, name)?;
+    lonely::caution(path, &header, Some(&variable));
+    stat::print(out, Stored::new(path, &file, size, variable))
+}
+
+fn accepted(path: &Path, opening: Opening) -> Result<Header, Failure> {
+    opening.answer.map_err(|refusal| Failure::of(path, refusal))
 }
 
 /// The name that ncdump gives a file's data set: the file's own without folders and without what follows its last dot. To
@@ -81,7 +88,7 @@ fn named<'h>(header: &'h Header, path: &Path, name: &str) -> Result<Variable<'h>
 }
 
 fn refused(path: &Path, wanted: &str, refusal: Refusal) -> Failure {
-    Failure::Refused(format!("{}: {}", path.display(), wanted), refusal)
+    Failure::Refused(format!("{}: {}", name_of(path), wanted), refusal)
 }
 
 fn print(out: &mut impl Write, mut stored: Stored, records: Range<u64>) -> Result<(), Failure> {

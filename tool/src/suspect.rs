@@ -1,43 +1,25 @@
 //! `fungal suspect`: the files that a 32-bit build of netcdf3 read otherwise than they are.
 
-use crate::failure::{Failure, Status};
-use crate::folders::{self, Progress};
-use crate::input;
+use crate::failure::{name_of, Failure, Status};
+use crate::folders::{self, Answer, Counts};
+use crate::{input, json};
 use clap::ArgMatches;
 use fungalcove::{Guest32, Header, Versions};
 use serde_json::{json, Value};
-use std::io::{self, BufWriter, Write};
-use std::path::{Path, PathBuf};
+use std::path::Path;
 
 pub fn run(asked: &ArgMatches) -> Result<Status, Failure> {
-    let (recursive, json) = (asked.get_flag("recursive"), asked.get_flag("json"));
-    let named = asked.get_many::<PathBuf>("files").into_iter().flatten();
-    let mut out = BufWriter::new(io::stdout().lock());
-    let mut progress = Progress::new(recursive);
-    let (mut files, mut status) = (0, Status::Good);
-    for path in folders::files(named, recursive) {
-        files += 1;
-        progress.step(|| format!("{} files", files));
-        let judged = path.and_then(|path| Ok((judge(&path)?, path)));
-        progress.print(&mut out, |mut out| match &judged {
-            Ok((Some((header, guest)), path)) if json => writeln!(out, "{}", as_json(path, header, guest)),
-            Ok((Some((header, guest)), path)) => tell(&mut out, path, header, guest),
-            Ok((None, _)) => Ok(()),
-            Err(failure) => {
-                failure.report();
-                Ok(())
-            }
-        })?;
-        status = status.max(match judged {
-            Ok((None, _)) => Status::Good,
-            Ok(_) => Status::Bad,
-            // a file that can't be judged is not known to be good
-            Err(_) => Status::Unread,
-        });
-    }
-    out.flush()?;
-    progress.end();
-    Ok(status)
+    let json = asked.get_flag("json");
+    let answer = |path: &Path, found: Result<(), Failure>| match found.and_then(|()| judge(path)) {
+        Ok(None) => Answer::nothing(),
+        Ok(Some((header, guest))) if json => Answer::line(json::of_file(path, object(&header, &guest)), Status::Bad),
+        Ok(Some((header, guest))) => Answer::line(line(path, &header, &guest), Status::Bad),
+        // a file that can't be judged is not known to be good
+        Err(failure) if json => Answer::line(json::of_file(path, json::failure(&failure)), Status::Unread),
+        Err(failure) => Answer::failure(failure),
+    };
+    let words = |counts: Counts| format!("{} files, {} suspect", counts.all(), counts.of(Status::Bad));
+    Ok(folders::each(asked, answer, words)?.status())
 }
 
 /// The file's header and what such a build makes of it, where that is otherwise.
@@ -47,25 +29,18 @@ fn judge(path: &Path) -> Result<Option<(Header, Guest32)>, Failure> {
     Ok(Some((header, guest)).filter(|_| guest.is_suspect()))
 }
 
-fn tell(out: &mut impl Write, path: &Path, header: &Header, guest: &Guest32) -> io::Result<()> {
-    write!(out, "{}: {} records; on 32 bits ", path.display(), header.record_count())?;
-    match guest.records {
-        Ok(records) => write!(out, "{}", records)?,
-        Err(error) => write!(out, "refused by {}", error)?,
-    }
-    if let Some(record) = guest.first_foreign {
-        write!(out, ", from record {} on taken from elsewhere", record)?;
-    }
-    if let Some(name) = cut_name(header, guest) {
-        write!(out, ", {:?} cut short", name)?;
-    }
-    writeln!(out)
+fn line(path: &Path, header: &Header, guest: &Guest32) -> String {
+    let found = guest.records.map_or_else(|error| format!("refused by {}", error), |records| records.to_string());
+    let foreign = guest.first_foreign.map(|record| format!(", from record {} on taken from elsewhere", record));
+    let cut = cut_name(header, guest).map(|name| format!(", {:?} cut short", name));
+    let more = foreign.unwrap_or_default() + &cut.unwrap_or_default();
+    format!("{}: {} records; on 32 bits {}{}", name_of(path), header.record_count(), found, more)
 }
 
-fn as_json(path: &Path, header: &Header, guest: &Guest32) -> Value {
+fn object(header: &Header, guest: &Guest32) -> Value {
     json!({
-        "file": path.to_string_lossy(), "records": header.record_count(),
-        "found": guest.records.ok(), "error": guest.records.err().map(|error| error.to_string()),
+        "records": header.record_count(),
+        "found": guest.records.ok(), "refused": guest.records.err().map(|error| error.to_string()),
         "foreign": guest.first_foreign, "cut": cut_name(header, guest),
     })
 }

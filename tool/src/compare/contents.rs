@@ -69,7 +69,7 @@ impl Described for OfAttribute<'_> {
     }
 }
 
-/// A variable's name, type, and the numbers of its dimensions.
+/// A variable's name, type, and the names of its dimensions.
 #[derive(PartialEq)]
 struct OfVariable<'h>(&'h str, DataType, Vec<&'h str>);
 

@@ -1,8 +1,9 @@
 //! What is wrong with a header: the rule that is not met, and the bytes that offend.
 
+use crate::brief::number;
 use crate::explain::judge;
 use crate::explain::said::Said;
-use crate::explain::walk::{counted, number, Derivation, Unmet};
+use crate::explain::walk::{counted, Derivation, Unmet};
 use fungalcove::{Opening, Refusal, Versions};
 use std::ops::Range;
 

@@ -2,7 +2,7 @@
 //!
 //! That one is broken the proved reader has said; here the first item that breaks it is found, in the order of the file.
 
-use crate::brief::{self, TYPES};
+use crate::brief::{self, number, TYPES};
 use crate::explain::fault::Fault;
 use crate::explain::said::{Named, Said, Variable};
 use std::ops::Range;
@@ -10,6 +10,9 @@ use std::ops::Range;
 /// 2^60 and 2^62, the limits of 12 and 15.
 const LARGEST: u128 = 1 << 60;
 const FURTHEST: u128 = 1 << 62;
+
+/// The bytes of the count word.
+const COUNT: Range<usize> = 4..8;
 
 const NAMES: &str = "no name is empty or twice in its list";
 
@@ -66,19 +69,17 @@ fn variable(file: &[u8], said: &Said, i: usize) -> Option<Fault> {
 }
 
 fn ids(said: &Said, variable: &Variable) -> Option<Fault> {
-    // the ids stand behind the name, its padding, and their number
-    let first = variable.named.name.end + (4 - variable.named.name.len() % 4) % 4 + 4;
-    let word = |k: usize| first + 4 * k..first + 4 * k + 4;
-    let all = first - 4..first + 4 * variable.ids.len();
+    let all = id_bytes(variable);
+    let word = |k: usize| all.start + 4 * k..all.start + 4 * k + 4;
     let count = said.dimensions.len();
     let ids = || variable.ids.iter().enumerate();
     if let Some((k, id)) = ids().find(|(_, id)| **id as usize >= count) {
         let why = format!("there is no dimension {}: the file has {}", id, count);
-        return Some(Fault::new("every id is below the number of dimensions", all, word(k), why));
+        return Some(Fault::new("every id is below the number of dimensions", all.clone(), word(k), why));
     }
     let (k, _) = ids().skip(1).find(|(_, id)| said.dimensions[**id as usize].length == 0)?;
     let why = format!("the unlimited dimension is number {} of this variable, counted from 0", k);
-    Some(Fault::new("the unlimited dimension stands only first in a variable", all, word(k), why))
+    Some(Fault::new("the unlimited dimension stands only first in a variable", all.clone(), word(k), why))
 }
 
 /// 12: a begin, a chunk, or the sum of the chunks of a record.
@@ -86,19 +87,22 @@ pub fn sizes(file: &[u8], said: &Said) -> Option<Fault> {
     let one = said.variables.iter().find_map(|variable| {
         if variable.begin < 0 || variable.begin as u128 > FURTHEST {
             let why = format!("{} begins at {}", named(file, variable), variable.begin);
-            return Some((variable, "a begin is not negative and at most 2^62", why));
+            return Some(at("a begin is not negative and at most 2^62", variable.begin_bytes.clone(), why));
         }
-        let why = format!("a record of {} has more than 2^60 bytes", named(file, variable));
-        Some((variable, "a padded chunk has at most 2^60 bytes", why)).filter(|_| padded(said, variable) > LARGEST)
+        let why = format!("the lengths of {} make a chunk of more than 2^60 bytes", named(file, variable));
+        let fault = at("a padded chunk has at most 2^60 bytes", id_bytes(variable), why);
+        Some(fault).filter(|_| padded(said, variable) > LARGEST)
     });
-    let begin = |variable: &Variable| variable.begin_bytes.clone();
-    match one {
-        Some((variable, rule, why)) => Some(Fault::new(rule, begin(variable), begin(variable), why)),
-        None => {
-            let why = format!("the records have {} bytes each", record_size(said));
-            Some(Fault::new("the record size is at most 2^60", 0..0, 0..0, why)).filter(|_| record_size(said) > LARGEST)
-        }
-    }
+    let sum = || {
+        let why = format!("the records have {} bytes each", record_size(said));
+        Some(at("the record size is at most 2^60", 0..0, why)).filter(|_| record_size(said) > LARGEST)
+    };
+    one.or_else(sum)
+}
+
+/// A fault of some bytes, all of which offend.
+fn at(rule: &str, bytes: Range<usize>, why: String) -> Fault {
+    Fault::new(rule, bytes.clone(), bytes, why)
 }
 
 /// 13 and 14: how the record count follows from the size.
@@ -109,14 +113,13 @@ pub fn count(said: &Said, size: u64) -> Option<Fault> {
         None => format!("the size, {}, lies below the first record's begin, {}", size, begin),
         Some(bytes) => format!("({} - {}) / {} leaves a rest of {} bytes", size, begin, step, bytes % step),
     };
-    // the count word is what leaves it open
-    Some(Fault::new(rule, 4..8, 4..8, why))
+    Some(at(rule, COUNT, why))
 }
 
 /// 15: the first variable that ends above 2^62.
 pub fn ends(file: &[u8], said: &Said, size: u64) -> Option<Fault> {
     let step = record_size(said);
-    let word = u128::from(super::walk::number(&file[4..8]));
+    let word = u128::from(number(&file[COUNT]));
     let opened = || first_begin(said).map_or(0, |begin| (u128::from(size) - begin) / step);
     let records = if word == 0xFFFF_FFFF { opened() } else { word };
     let end = |variable: &&Variable| match (is_record(said, variable), records) {
@@ -128,8 +131,22 @@ pub fn ends(file: &[u8], said: &Said, size: u64) -> Option<Fault> {
     };
     let variable = said.variables.iter().find(|variable| end(variable) > FURTHEST)?;
     let why = format!("{} ends at {}, with {} records", named(file, variable), end(&variable), records);
-    let bytes: Range<usize> = variable.begin_bytes.clone();
-    Some(Fault::new("no variable ends above 2^62", bytes.clone(), bytes, why))
+    let steps = if is_record(said, variable) { records.saturating_sub(1).saturating_mul(step) } else { 0 };
+    // what takes it so far: its begin, the records before its last, or its lengths
+    let parts = [
+        (variable.begin as u128, variable.begin_bytes.clone()),
+        (steps, COUNT),
+        (padded(said, variable), id_bytes(variable)),
+    ];
+    let (_, bytes) = parts.into_iter().max_by_key(|(part, _)| *part)?;
+    Some(at("no variable ends above 2^62", bytes, why))
+}
+
+/// The bytes of a variable's ids; they stand behind its name, the name's padding, and their number.
+fn id_bytes(variable: &Variable) -> Range<usize> {
+    let name = &variable.named.name;
+    let first = name.end + (4 - name.len() % 4) % 4 + 4;
+    first..first + 4 * variable.ids.len()
 }
 
 fn named(file: &[u8], variable: &Variable) -> String {

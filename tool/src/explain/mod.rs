@@ -5,8 +5,9 @@ mod judge;
 mod said;
 mod walk;
 
+use crate::brief::inclusive;
 use crate::check::admitted;
-use crate::failure::{Failure, Status};
+use crate::failure::{name_of, Failure, Status};
 use crate::input;
 use clap::ArgMatches;
 use fault::Fault;
@@ -45,19 +46,19 @@ pub fn run(asked: &ArgMatches) -> Result<Status, Failure> {
 }
 
 fn heading(out: &mut impl Write, path: &Path, opening: &Opening) -> io::Result<()> {
-    writeln!(out, "{}, {} bytes", path.display(), opening.size)
+    writeln!(out, "{}, {} bytes", name_of(path), opening.size)
 }
 
 fn explain(out: &mut impl Write, opening: &Opening, versions: Versions) -> io::Result<()> {
     // up to here the reader has accepted every byte
     let (stop, records) = match &opening.answer {
         Ok(header) => (header.end() as usize, Some(header.record_count())),
+        // a file of that size is refused before a byte is looked at
+        Err(refusal @ Refusal { number: 21, .. }) => return writeln!(out, "refused: {}", refusal),
         Err(refusal) => (refusal.place.map_or(opening.prefix.len(), |place| place as usize), None),
     };
     let derivation = walk::walk(&opening.prefix, stop, records);
-    if !matches!(opening.answer, Err(Refusal { number: 21, .. })) {
-        lines(out, &derivation)?;
-    }
+    lines(out, &derivation)?;
     match &opening.answer {
         Ok(header) => {
             writeln!(out, "accepted: 0, {} records, header ends at byte {}", header.record_count(), header.end())
@@ -74,7 +75,7 @@ fn explain(out: &mut impl Write, opening: &Opening, versions: Versions) -> io::R
 
 /// First and last byte, the rule, indented as the grammar nests, and what the bytes say.
 fn lines(out: &mut impl Write, derivation: &Derivation) -> io::Result<()> {
-    let ranges: Vec<String> = derivation.lines.iter().map(|line| inclusive(&line.bytes)).collect();
+    let ranges: Vec<String> = derivation.lines.iter().map(|line| inclusive(wide(&line.bytes))).collect();
     let rules: Vec<String> =
         derivation.lines.iter().map(|line| format!("{}{}", "  ".repeat(line.depth), line.rule)).collect();
     let width = |texts: &[String]| texts.iter().map(String::len).max().unwrap_or(0);
@@ -86,13 +87,8 @@ fn lines(out: &mut impl Write, derivation: &Derivation) -> io::Result<()> {
     Ok(())
 }
 
-/// As `4-7`, or `3` for one byte and `-` for none.
-fn inclusive(bytes: &Range<usize>) -> String {
-    match bytes.len() {
-        0 => "-".to_string(),
-        1 => bytes.start.to_string(),
-        _ => format!("{}-{}", bytes.start, bytes.end - 1),
-    }
+fn wide(bytes: &Range<usize>) -> Range<u64> {
+    bytes.start as u64..bytes.end as u64
 }
 
 /// The rule, the bytes in hexadecimal with the offending ones marked below, and why they offend.

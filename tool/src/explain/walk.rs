@@ -3,7 +3,7 @@
 //! The walk judges nothing. Up to where it goes the proved reader has accepted every byte, so that it only has to follow; where the
 //! reader refused, the next rule is the one that is not met.
 
-use crate::brief;
+use crate::brief::{self, number};
 use crate::explain::said::{Dimension, Named, Said, Variable};
 use fungalcove::Version;
 use std::ops::Range;
@@ -242,11 +242,6 @@ fn version(byte: u8) -> String {
         2 => format!("2: {}", Version::Offset64),
         _ => byte.to_string(),
     }
-}
-
-/// A number of up to 8 bytes, big-endian.
-pub fn number(bytes: &[u8]) -> u64 {
-    bytes.iter().fold(0, |number, byte| number << 8 | u64::from(*byte))
 }
 
 /// A number of 4 or 8 bytes in two's complement.
