@@ -75,7 +75,7 @@ def accepted_case(tool, path):
 
 def refused_case(tool, path, number, known):
     answer = run(tool, "check", path)
-    if answer.returncode != 1 or not answer.stdout.decode().startswith("%s: %d" % (path, number)):
+    if answer.returncode != 1 or not re.match(r"%s: %d( at byte|:)" % (re.escape(path), number), answer.stdout.decode()):
         return ["%s: answered otherwise than by %d" % (path, number)]
     name = os.path.basename(path)
     return [] if (str(number), name) in known else ["%s: docs/DIFFERENCES.md has no line of %d that names it" % (path, number)]
