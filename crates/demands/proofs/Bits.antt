@@ -18,10 +18,10 @@ use Rattle.rules.specs.Encode.{encode}
 use Rattle.items.specs.Types.{sizeOf}
 use Rattle.sizes.specs.Records.{isRecord, chunk}
 use Rattle.bigendian.specs.Number.{be}
-use Rattle.reads.specs.Sought.{tablesHold, spread, sought}
+use Rattle.found.specs.Sought.{tablesHold, spread, sought}
 use Rattle.reads.specs.Reads.{elementAt, bits, holds}
 use Rattle.reads.specs.Element.{elementOf, elementRead}
-use Rattle.reads.specs.declared.variable.Spread.{Spread}
+use Rattle.found.specs.declared.variable.Spread.{Spread}
 use Rattle.order.specs.Writable.{toWrite}
 use Rattle.convert.specs.Convert.{moved, movedTables, newTables}
 use Rattle.convert.proofs.Laws.Read.{row-is}

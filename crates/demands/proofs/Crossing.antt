@@ -4,11 +4,11 @@ use native.Mathlib.Omega.{arith}
 use mathlib.Core.Path.{_≡_, sym, ap, _∙_}
 use mathlib.Core.List.{List, _++_}
 use Rattle.cdf.specs.Step.{Step, got, stop}
-use Rattle.reads.specs.Sought.{sought}
+use Rattle.found.specs.Sought.{sought}
 use Rattle.reads.specs.Reads.{recordFrom, wholeFrom}
 use Rattle.reads.specs.Element.{elementFrom}
 use Rattle.reads.specs.Inner.Spot.{Bounded}
-use Rattle.reads.specs.declared.variable.Spread.{Spread}
+use Rattle.found.specs.declared.variable.Spread.{Spread}
 use Rattle.reads.proofs.Laws.Bounded.{found}
 use Rattle.crossing.proofs.Laws.Back.{loaded-stored}
 use Rattle.exports.specs.Variable.{spreadWords, spreadOf, taken}

@@ -1,12 +1,12 @@
 -- Two conforming answers coincide.
 use mathlib.Core.Path.{_≡_, refl, sym, ap, _∙_}
 use Rattle.cdf.specs.Step.{Step, got, stop}
-use Rattle.reads.specs.Sought.{ofSought}
+use Rattle.found.specs.Sought.{ofSought}
 use Rattle.reads.specs.Element.{ofValue, ofTold}
 use Rattle.lookup.specs.Lookup.{ofFound}
-use Rattle.reads.specs.declared.variable.Spread.{Spread}
-use Rattle.reads.specs.declared.variable.Sought.{Sought}
-use Rattle.reads.specs.declared.variable.Sought.the-variants.{Got, Refused as Denied}
+use Rattle.found.specs.declared.variable.Spread.{Spread}
+use Rattle.found.specs.declared.variable.Sought.{Sought}
+use Rattle.found.specs.declared.variable.Sought.the-variants.{Got, Refused as Denied}
 use Rattle.reads.specs.declared.bits.Bits.{Bits}
 use Rattle.reads.specs.declared.bits.Told.{Told}
 use Rattle.reads.specs.declared.bits.Told.the-variants.{Got as Gave, Refused as Withheld}

@@ -4,11 +4,11 @@ use mathlib.Core.Path.{_≡_, refl, ap, _∙_}
 use mathlib.Core.Bool.{Bool, true, false}
 use mathlib.Core.List.{List}
 use Rattle.cdf.specs.Step.{Step, got, stop, bind, test, into}
-use Rattle.reads.specs.Sought.{sought}
+use Rattle.found.specs.Sought.{sought}
 use Rattle.reads.specs.Kept.{kept}
 use Rattle.reads.specs.Reads.{recordOf, recordRead, recordFrom, wholeOf, wholeRead, wholeFrom}
 use Rattle.reads.specs.Element.{valueOf, elementWith, elementOf, elementRead, elementReadAs, elementFrom, elementFromAs, bitsFrom}
-use Rattle.reads.specs.declared.variable.Spread.{Spread}
+use Rattle.found.specs.declared.variable.Spread.{Spread}
 use Rattle.reads.specs.declared.bits.Bits.{Bits}
 use Rattle.reads.specs.declared.element.Value.{Value}
 use Rattle.reads.proofs.Laws.Kept.{found-kept, found-kept-as}

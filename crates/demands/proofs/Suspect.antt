@@ -18,8 +18,8 @@ use Rattle.sizes.specs.Records.{chunk, recordSize, maxPosition}
 use Rattle.sizes.specs.Count.{hasUnlimited, hasRecords, isOpen, firstBegin, recordCount}
 use Rattle.sizes.proofs.Laws.Records.{begin-in}
 use Rattle.sizes.proofs.Laws.Count.{records-positive}
-use Rattle.reads.specs.Sought.{tablesHold}
-use Rattle.reads.proofs.Laws.Sought.{tables-parts}
+use Rattle.found.specs.Sought.{tablesHold}
+use Rattle.found.proofs.Laws.Sought.{tables-parts}
 use Rattle.guest32.specs.Guest.{word32, low32, guestStep, guestFirst, guestRest, opened, guestCount, elsewhere, cutShort, firstForeign, firstCut, guest32}
 use Rattle.guest32.proofs.Laws.Guest.{step-low, elsewhere-is, cut-is, cut-not, guest-counted}
 use Rattle.header.specs.declared.reader.Header.{Header}

@@ -13,12 +13,12 @@ use Rattle.bigendian.specs.Lists.{tab, grid}
 use Rattle.bigendian.proofs.Laws.Lists.{grid-ext, length-tab, getD-tab, tab-ext, entry}
 use Rattle.grammar.specs.Tables.{varAt}
 use Rattle.grammar.specs.declared.tables.Tables.{Tables}
-use Rattle.reads.specs.Sought.{tablesHold, spread, sought, soughtAs}
+use Rattle.found.specs.Sought.{tablesHold, spread, sought, soughtAs}
 use Rattle.reads.specs.Kept.{wholeBytes}
 use Rattle.reads.specs.Reads.{recordAt, elementAt, bits, holds, recordRead, wholeRead}
 use Rattle.reads.specs.Element.{valueOf, elementOf, elementRead, elementReadAs}
-use Rattle.reads.specs.declared.variable.Spread.{Spread}
-use Rattle.reads.proofs.Laws.Sought.{typed-came}
+use Rattle.found.specs.declared.variable.Spread.{Spread}
+use Rattle.found.proofs.Laws.Sought.{typed-came}
 use Rattle.reads.proofs.Laws.Reads.{held, held-by, each-held, whole-held, same-number, element-in}
 use Rattle.demands.specs.ValueReads.{Accepts, RefusalsLeaveOutputs, IsTyped, AcceptedIsTyped, ElementsAgree, RecordsAgree, WholesAgree, Share, ElementsAreLocal, RecordsAreLocal, WholesAreLocal}
 

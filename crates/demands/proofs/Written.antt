@@ -43,7 +43,7 @@ use Rattle.convert.proofs.Laws.Read.{same-inside}
 use Rattle.header.specs.Header.{answer, judged, readHeader}
 use Rattle.header.specs.declared.reader.Header.{Header}
 use Rattle.header.proofs.Laws.Accepted.{accepted-came, tree-size, same-sizes, same-ends}
-use Rattle.reads.specs.Sought.{shapeHolds, tablesHold}
+use Rattle.found.specs.Sought.{shapeHolds, tablesHold}
 use Rattle.header.proofs.Laws.Refusals.{Refuses, gives, stops, count-refuses}
 use Rattle.demands.proofs.Alike.{model-same, sizes-same, count-same, ends-same}
 use Rattle.demands.proofs.Placed.{PlacedVar, Placed, said-alike}

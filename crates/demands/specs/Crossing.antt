@@ -5,12 +5,12 @@ use mathlib.Core.Path.{_≡_}
 use mathlib.Core.List.{List, _++_}
 use Rattle.cdf.specs.Step.{Step, got, numberOf}
 use Rattle.grammar.specs.declared.tables.Tables.{Tables}
-use Rattle.reads.specs.Sought.{sought}
+use Rattle.found.specs.Sought.{sought}
 use Rattle.reads.specs.Reads.{recordRead, recordFrom, wholeRead, wholeFrom}
 use Rattle.reads.specs.Element.{elementRead, elementFrom}
-use Rattle.reads.specs.declared.variable.Spread.{Spread}
+use Rattle.found.specs.declared.variable.Spread.{Spread}
 use Rattle.crossing.specs.Words.{tableWords, Full, loaded}
-use Rattle.exports.specs.Outputs.{Gets}
+use Rattle.outputs.specs.Outputs.{Gets}
 use Rattle.exports.specs.Variable.{spreadWords, taken}
 
 -- loading what was stored gives the same tables, whatever words follow

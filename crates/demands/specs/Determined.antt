@@ -9,11 +9,11 @@ use Rattle.cdf.specs.declared.version.Admitted.{Admitted}
 use Rattle.grammar.specs.declared.tables.Tables.{Tables}
 use Rattle.header.specs.Header.{Conforms}
 use Rattle.header.specs.declared.reader.Header.{Header}
-use Rattle.reads.specs.Sought.{ofSought}
+use Rattle.found.specs.Sought.{ofSought}
 use Rattle.reads.specs.Element.{ofValue, ofTold}
 use Rattle.lookup.specs.Lookup.{ofFound, IsName}
-use Rattle.reads.specs.declared.variable.Spread.{Spread}
-use Rattle.reads.specs.declared.variable.Sought.{Sought}
+use Rattle.found.specs.declared.variable.Spread.{Spread}
+use Rattle.found.specs.declared.variable.Sought.{Sought}
 use Rattle.reads.specs.declared.element.Value.{Value}
 use Rattle.reads.specs.declared.bits.Bits.{Bits}
 use Rattle.reads.specs.declared.bits.Told.{Told}
@@ -23,7 +23,7 @@ use Rattle.guest32.specs.declared.guest.Guest.{Guest}
 use Rattle.guest32.specs.declared.guest.Answer.{Answer}
 use Rattle.crossing.specs.Words.{Loads}
 use Rattle.crossing.specs.declared.load.Loaded.{Loaded}
-use Rattle.exports.specs.Outputs.{Gets}
+use Rattle.outputs.specs.Outputs.{Gets}
 use Rattle.writer.specs.Writes.{Writes}
 use Rattle.writer.specs.declared.header.Written.{Written}
 use Rattle.convert.specs.Convert.{New, Converts}

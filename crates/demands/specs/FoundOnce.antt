@@ -4,7 +4,7 @@ use mathlib.Core.Path.{_≡_}
 use mathlib.Core.List.{List}
 use Rattle.cdf.specs.Step.{Step, into}
 use Rattle.grammar.specs.declared.tables.Tables.{Tables}
-use Rattle.reads.specs.Sought.{sought}
+use Rattle.found.specs.Sought.{sought}
 use Rattle.reads.specs.Reads.{recordRead, recordFrom, wholeRead, wholeFrom}
 use Rattle.reads.specs.Element.{valueOf, elementRead, elementReadAs, elementFrom, elementFromAs, bitsFrom}
 use Rattle.reads.specs.declared.bits.Bits.{Bits}

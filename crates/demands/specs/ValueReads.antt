@@ -8,10 +8,10 @@ use mathlib.Core.List.{List}
 use lib.ListN.{length, getD}
 use Rattle.cdf.specs.Step.{Step, got, numberOf, givenOr, Leaves}
 use Rattle.grammar.specs.declared.tables.Tables.{Tables}
-use Rattle.reads.specs.Sought.{sought, soughtAs}
+use Rattle.found.specs.Sought.{sought, soughtAs}
 use Rattle.reads.specs.Reads.{recordAt, elementAt, bits, holds, recordRead, wholeRead}
 use Rattle.reads.specs.Element.{valueOf, elementRead, elementReadAs}
-use Rattle.reads.specs.declared.variable.Spread.{Spread}
+use Rattle.found.specs.declared.variable.Spread.{Spread}
 
 -- a read that answers 0 (01, number 0: "accepted")
 abbrev pub Accepts : {A : Type 0} → Step A → Type 0

@@ -1,5 +1,3 @@
 -- The laws of the definitions in specs/, under the same file names; Numbers has what no refusal is.
-pub mod Numbers
-pub mod Outputs
 pub mod Reader
 pub mod Variable

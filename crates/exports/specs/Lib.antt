@@ -1,4 +1,3 @@
 -- What the exported functions answer.
-pub mod Outputs
 pub mod Reader
 pub mod Variable

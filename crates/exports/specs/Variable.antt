@@ -7,7 +7,7 @@ use lib.Dec.{leb}
 use Rattle.cdf.specs.Step.{Step, got, need}
 use Rattle.cdf.specs.Below.{between}
 use Rattle.items.specs.Types.{sizeOf}
-use Rattle.reads.specs.declared.variable.Spread.{Spread}
+use Rattle.found.specs.declared.variable.Spread.{Spread}
 
 -- begin, how many records, record size, elements a record, type code. The bytes of an element are those of the type
 unfoldable pub spreadWords : Spread → List ℕ

@@ -1,7 +1,7 @@
 // Widening and narrowing: the new header goes to `out`, its length and the new file's size beside it. The place of a header's refusal:
 // `fungal_header_place` with both versions.
 ghost use Rattle.convert.specs.Convert.{convert};
-ghost use Rattle.exports.specs.Outputs.{TellsConverted};
+ghost use Rattle.outputs.specs.Outputs.{TellsConverted};
 use convert::convert::narrow;
 use convert::convert::widen;
 

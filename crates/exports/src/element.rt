@@ -1,6 +1,6 @@
 // One element of a variable that a caller keeps.
 ghost use Rattle.reads.specs.Element.{bitsFrom};
-ghost use Rattle.exports.specs.Outputs.{TellsElement};
+ghost use Rattle.outputs.specs.Outputs.{TellsElement};
 ghost use Rattle.exports.specs.Variable.{taken};
 use crate::variable::taken;
 use reads::bits::Bits;

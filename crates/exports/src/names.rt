@@ -1,6 +1,6 @@
 // Names and numbers of variables. A name is a part of the caller's text, told by where it starts and how many bytes it has.
 ghost use Rattle.lookup.specs.Lookup.{findVar, nameOf};
-ghost use Rattle.exports.specs.Outputs.{TellsNumber, TellsName};
+ghost use Rattle.outputs.specs.Outputs.{TellsNumber, TellsName};
 ghost use Rattle.exports.specs.Reader.{ofTables};
 use crossing::load::load_tables;
 use lookup::names::Found;

@@ -1,7 +1,7 @@
 // The header reader. The tables cross as numbers (the crate crossing), for the caller to look at and to hand in again.
 ghost use mathlib.Core.Path.{_≡_};
 ghost use Rattle.header.specs.Header.{readHeader};
-ghost use Rattle.exports.specs.Outputs.{TellsList};
+ghost use Rattle.outputs.specs.Outputs.{TellsList};
 ghost use Rattle.exports.specs.Reader.{admitted, headerWords};
 use cdf::version::Admitted;
 use crossing::store::WORDS;

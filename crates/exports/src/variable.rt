@@ -1,14 +1,14 @@
 // A variable that a caller keeps between reads.
 ghost use mathlib.Core.Path.{_≡_};
 ghost use Rattle.cdf.specs.Step.{Leaves, bind};
-ghost use Rattle.reads.specs.Sought.{sought, ofSought};
+ghost use Rattle.found.specs.Sought.{sought, ofSought};
 ghost use Rattle.exports.specs.Reader.{ofTables};
 ghost use Rattle.exports.specs.Variable.{placed, taken};
 use crossing::load::load_tables;
+use found::variable::Sought;
+use found::variable::Spread;
+use found::variable::seek;
 use items::types::DataType;
-use reads::variable::Sought;
-use reads::variable::Spread;
-use reads::variable::seek;
 
 // How many words a variable takes.
 const WORDS: usize = 5;

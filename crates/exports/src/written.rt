@@ -1,6 +1,6 @@
 // The header writer.
 ghost use Rattle.writer.specs.Writes.{writeHeader};
-ghost use Rattle.exports.specs.Outputs.{TellsList};
+ghost use Rattle.outputs.specs.Outputs.{TellsList};
 ghost use Rattle.exports.specs.Reader.{ofTables};
 use crossing::load::load_tables;
 use writer::header::write_header;

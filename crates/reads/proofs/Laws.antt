@@ -1,5 +1,4 @@
 -- The laws of the definitions in specs/, under the same file names.
-pub mod Sought
 pub mod Reads
 pub mod Element
 pub mod Bounded

@@ -6,10 +6,10 @@ use lib.Dec.{ltb}
 use Rattle.cdf.specs.Step.{Step, got, stop, bind, need}
 use Rattle.decode.specs.Decoded.{byte, short, int, float, double}
 use Rattle.grammar.specs.declared.tables.Tables.{Tables}
-use Rattle.reads.specs.Sought.{sought, soughtAs}
+use Rattle.found.specs.Sought.{sought, soughtAs}
 use Rattle.reads.specs.Kept.{kept, keptAs}
 use Rattle.reads.specs.Reads.{elementAt, bits, holds}
-use Rattle.reads.specs.declared.variable.Spread.{Spread}
+use Rattle.found.specs.declared.variable.Spread.{Spread}
 use Rattle.reads.specs.declared.bits.Bits.{Bits}
 use Rattle.reads.specs.declared.bits.Told.{Told}
 use Rattle.reads.specs.declared.bits.Told.the-variants.{Got, Refused as Withheld}

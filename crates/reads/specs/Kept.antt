@@ -7,7 +7,7 @@ use Rattle.cdf.specs.Step.{Step, got, bind, need}
 use Rattle.cdf.specs.Below.{between}
 use Rattle.items.specs.Types.{sizeOf}
 use Rattle.sizes.specs.Records.{maxPosition}
-use Rattle.reads.specs.declared.variable.Spread.{Spread}
+use Rattle.found.specs.declared.variable.Spread.{Spread}
 
 -- the value bytes of a variable's records, from the first to the last, without the last one's padding. Asked only where there are records
 abbrev pub wholeBytes : Spread → ℕ

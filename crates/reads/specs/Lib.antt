@@ -1,5 +1,4 @@
 -- Reads, as definitions. Each comment names the section of document 01 ("01, ..").
-pub mod Sought
 pub mod Kept
 pub mod Reads
 pub mod Element

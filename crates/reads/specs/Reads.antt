@@ -8,9 +8,9 @@ use Rattle.bigendian.specs.Number.{be}
 use Rattle.bigendian.specs.Lists.{tab, grid}
 use Rattle.cdf.specs.Step.{Step, got, bind, need}
 use Rattle.grammar.specs.declared.tables.Tables.{Tables}
-use Rattle.reads.specs.Sought.{soughtAs}
+use Rattle.found.specs.Sought.{soughtAs}
 use Rattle.reads.specs.Kept.{wholeBytes, keptAs}
-use Rattle.reads.specs.declared.variable.Spread.{Spread}
+use Rattle.found.specs.declared.variable.Spread.{Spread}
 
 -- "Chunk of record r starts at begin + r × record size."
 abbrev pub recordAt : Spread → ℕ → ℕ

@@ -6,15 +6,15 @@ ghost use Rattle.bigendian.specs.Number.{be};
 ghost use Rattle.items.specs.Types.{sizeOf};
 ghost use Rattle.reads.specs.Element.{elementWith, bitsFrom, ofTold};
 ghost use Rattle.reads.specs.Inner.Spot.{Bounded};
-ghost use Rattle.reads.specs.Sought.{ofSought};
+ghost use Rattle.found.specs.Sought.{ofSought};
 use crate::kept::kept;
 use crate::place::Spot;
 use crate::place::element_spot;
-use crate::variable::Sought;
-use crate::variable::Spread;
 use bigendian::number::be32;
 use bigendian::number::be64;
 use decode::short::be16;
+use found::variable::Sought;
+use found::variable::Spread;
 use items::types::DataType;
 
 // The code of a type and the bits of a value of it.

@@ -5,14 +5,12 @@ ghost use lib.ListN.{length};
 ghost use Rattle.bigendian.specs.Number.{be};
 ghost use Rattle.items.specs.Types.{sizeOf};
 ghost use Rattle.reads.specs.Inner.Spot.{Bounded};
-ghost use Rattle.reads.specs.Sought.{ofSought};
+ghost use Rattle.found.specs.Sought.{ofSought};
 ghost use Rattle.reads.specs.Element.{valueOf, elementOf, elementFrom, elementFromAs, ofValue};
 use crate::kept::kept;
 use crate::kept::kept_as;
 use crate::place::Spot;
 use crate::place::element_spot;
-use crate::variable::Sought;
-use crate::variable::Spread;
 use bigendian::number::be32;
 use bigendian::number::be64;
 use decode::pattern::f32_of;
@@ -21,6 +19,8 @@ use decode::pattern::i8_of;
 use decode::pattern::i16_of;
 use decode::pattern::i32_of;
 use decode::short::be16;
+use found::variable::Sought;
+use found::variable::Spread;
 use items::types::DataType;
 
 // A value of the variable's type, or the number of the refusal. A float and a double have their bits beside them: the language has one

@@ -4,10 +4,10 @@ ghost use Prim.Native.Nat.{_+_, _<_};
 ghost use lib.Dec.{leb};
 ghost use Rattle.sizes.specs.Records.{maxPosition};
 ghost use Rattle.reads.specs.Kept.{wholeBytes, spreadHolds, kept, keptAs};
-ghost use Rattle.reads.specs.Sought.{ofSought};
-use crate::variable::Sought;
-use crate::variable::Spread;
+ghost use Rattle.found.specs.Sought.{ofSought};
 use decode::room::product_within;
+use found::variable::Sought;
+use found::variable::Spread;
 use grammar::tables::MAX_POSITION;
 use items::types::DataType;
 

@@ -2,7 +2,7 @@
 ghost use mathlib.Core.Path.{_≡_};
 ghost use Rattle.reads.specs.Reads.{holds};
 ghost use Rattle.reads.specs.Inner.Spot.{ofSpot, Bounded, elementSpot};
-use crate::variable::Spread;
+use found::variable::Spread;
 
 pub enum Spot {
     At(usize),

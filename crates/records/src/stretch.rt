@@ -1,13 +1,13 @@
 // The records that a read decodes, as places in the window.
 ghost use mathlib.Core.Path.{_≡_};
 ghost use Rattle.reads.specs.Inner.Spot.{Bounded};
-ghost use Rattle.reads.specs.Sought.{ofSought};
+ghost use Rattle.found.specs.Sought.{ofSought};
 ghost use Rattle.records.specs.Inner.Stretch.{ofStretched, recordStretch, wholeStretch, recordPlaced, wholePlaced};
 use decode::room::product_within;
+use found::variable::Sought;
+use found::variable::Spread;
 use reads::kept::kept_as;
 use reads::place::holds;
-use reads::variable::Sought;
-use reads::variable::Spread;
 
 // `count` chunks of `chunk` elements, the first at `at`, one `stride` bytes after the other.
 pub struct Stretch {

@@ -2,7 +2,7 @@
 // Each answers 0, or the number of the refusal with nothing written. The last two keep every bit of floats and doubles, a NaN's own too.
 ghost use Rattle.decode.specs.Decoded.{byte, short, int, float, double, raw};
 ghost use Rattle.cdf.specs.Step.{Leaves};
-ghost use Rattle.reads.specs.Sought.{ofSought};
+ghost use Rattle.found.specs.Sought.{ofSought};
 ghost use Rattle.reads.specs.Reads.{wholeFrom};
 use crate::stretch::Stretch;
 use crate::stretch::Stretched;
@@ -15,8 +15,8 @@ use decode::strided::records_i32;
 use decode::strided::records_u8;
 use decode::strided::records_u32;
 use decode::strided::records_u64;
+use found::variable::Sought;
 use items::types::DataType;
-use reads::variable::Sought;
 
 // The answer number of a read that has filled its output.
 const ACCEPTED: u8 = 0;

@@ -7,6 +7,7 @@ use crate::text::show_double;
 use crate::text::show_float;
 use crate::text::show_int;
 use crate::text::show_short;
+use found::variable::seek;
 use grammar::tables::Tables;
 use reads::element::Value;
 use reads::element::read_element;
@@ -16,7 +17,6 @@ use reads::element::read_element_i8;
 use reads::element::read_element_i16;
 use reads::element::read_element_i32;
 use reads::element::read_element_u8;
-use reads::variable::seek;
 
 fn show_value(v: Value) {
     match v {

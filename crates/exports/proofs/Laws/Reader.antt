@@ -13,10 +13,10 @@ use Rattle.header.proofs.Laws.Header.{after-refused, after-read}
 use Rattle.crossing.specs.Words.{stored, loaded, Loads}
 use Rattle.crossing.specs.declared.load.Loaded.{Loaded}
 use Rattle.writer.specs.Writes.{writeHeader, lengthOf}
-use Rattle.exports.specs.Outputs.{TellsList}
+use Rattle.outputs.specs.Outputs.{TellsList}
 use Rattle.exports.specs.Reader.{admitted, headerWords, ofTables}
-use Rattle.exports.proofs.Laws.Numbers.{number-stops, number-gives, stored-numbered, loaded-numbered, write-numbered}
-use Rattle.exports.proofs.Laws.Outputs.{list-is}
+use Rattle.outputs.proofs.Laws.Numbers.{number-stops, number-gives, stored-numbered, loaded-numbered, write-numbered}
+use Rattle.outputs.proofs.Laws.Outputs.{list-is}
 
 -- ---- tables that are handed in
 module _ {A : Type 0} (s : List ℕ) (f : Tables → Step A) {r : Loaded} (loads : Loads s r) where

@@ -7,7 +7,7 @@ use lib.ListN.{length, getD, set, drop}
 use borrow.Author.Tests.{lt-leb, le-leb}
 use Rattle.cdf.specs.Step.{got, stop, Leaves}
 use Rattle.cdf.proofs.Laws.Step.{by-true, by-false, leaves-stop, leaves-got}
-use Rattle.reads.specs.declared.variable.Spread.{Spread}
+use Rattle.found.specs.declared.variable.Spread.{Spread}
 use Rattle.exports.specs.Variable.{spreadWords, placed, spreadOf, taken}
 
 module _ (s : List ℕ) where

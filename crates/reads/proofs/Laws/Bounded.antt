@@ -11,12 +11,12 @@ use Rattle.grammar.specs.Tables.{varAt}
 use Rattle.grammar.specs.declared.tables.Tables.{Tables}
 use Rattle.sizes.specs.Records.{isRecord, chunk, chunkBytes, paddedBytes, maxPosition, endOf, endsHold}
 use Rattle.cdf.proofs.Laws.Below.{holds-at}
-use Rattle.reads.specs.Sought.{spread, sought}
-use Rattle.reads.proofs.Laws.Sought.{Holds, tables-parts}
+use Rattle.found.specs.Sought.{spread, sought}
+use Rattle.found.proofs.Laws.Sought.{Holds, tables-parts}
 use Rattle.cdf.specs.Step.{got}
 use Rattle.cdf.proofs.Laws.Step.{test-came, got-same}
 use Rattle.reads.specs.Inner.Spot.{Bounded}
-use Rattle.reads.specs.declared.variable.Spread.{Spread}
+use Rattle.found.specs.declared.variable.Spread.{Spread}
 
 ends-bound : (records : Bool) (begin padded step n bytes r : ℕ) → bytes ≤ padded → cond records (cond (eqb n 0) begin (begin + (n - 1) * step + padded)) (begin + padded) ≤ maxPosition → r < cond records n 1
     → begin + r * step + bytes ≤ maxPosition

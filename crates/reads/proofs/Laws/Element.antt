@@ -18,7 +18,7 @@ use Rattle.grammar.specs.declared.tables.Tables.{Tables}
 use Rattle.reads.specs.Reads.{elementAt, bits, holds}
 use Rattle.reads.specs.Inner.Spot.{elementSpot}
 use Rattle.reads.specs.Element.{valueOf, elementWith, elementOf, ofValue}
-use Rattle.reads.specs.declared.variable.Spread.{Spread}
+use Rattle.found.specs.declared.variable.Spread.{Spread}
 use Rattle.reads.specs.declared.element.Value.{Value}
 use Rattle.reads.specs.declared.element.Value.the-variants.{Float, Double}
 use Rattle.reads.proofs.Laws.Reads.{held}

@@ -13,10 +13,10 @@ use Rattle.cdf.proofs.Laws.Step.{by-true, by-false, by-got, by-stop, bind-came,
 use Rattle.items.specs.Types.{sizeOf}
 use Rattle.sizes.specs.Records.{maxPosition}
 use Rattle.grammar.specs.declared.tables.Tables.{Tables}
-use Rattle.reads.specs.Sought.{sought, soughtAs}
+use Rattle.found.specs.Sought.{sought, soughtAs}
 use Rattle.reads.specs.Kept.{wholeBytes, spreadHolds, kept, keptAs}
 use Rattle.reads.specs.Inner.Spot.{Bounded}
-use Rattle.reads.specs.declared.variable.Spread.{Spread}
+use Rattle.found.specs.declared.variable.Spread.{Spread}
 use Rattle.reads.proofs.Laws.Bounded.{found}
 
 -- ---- the end of the last value, found without a sum or a product that wraps

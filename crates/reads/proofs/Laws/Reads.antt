@@ -18,7 +18,7 @@ use Rattle.decode.proofs.Laws.Room.{every-record}
 use Rattle.reads.specs.Reads.{recordAt, elementAt, holds}
 use Rattle.reads.specs.Kept.{wholeBytes}
 use Rattle.reads.specs.Inner.Spot.{elementSpot}
-use Rattle.reads.specs.declared.variable.Spread.{Spread}
+use Rattle.found.specs.declared.variable.Spread.{Spread}
 
 module _ (have start at n : ℕ) where
   pub holds-before : at < start → false ≡ holds have start at n

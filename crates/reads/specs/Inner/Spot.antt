@@ -1,21 +1,13 @@
--- How the code finds a variable, and the place of an element in the window.
+-- How the code finds the place of an element in the window.
 use Prim.Native.Nat.{ℕ, _+_, _-_, _*_, _≤_, _<_, _^_}
-use mathlib.Core.Bool.{Bool, _&&_}
 use mathlib.Core.Path.{_≡_}
-use lib.Dec.{ltb, leb}
+use lib.Dec.{ltb}
 use Rattle.cdf.specs.Step.{Step, got, stop, need}
-use Rattle.cdf.specs.Below.{between}
 use Rattle.items.specs.Types.{sizeOf}
-use Rattle.grammar.specs.Tables.{maxRank}
-use Rattle.grammar.specs.declared.tables.Var.{Var}
 use Rattle.reads.specs.Reads.{elementAt, holds}
-use Rattle.reads.specs.declared.variable.Spread.{Spread}
+use Rattle.found.specs.declared.variable.Spread.{Spread}
 use Rattle.reads.specs.declared.place.Spot.{Spot}
 use Rattle.reads.specs.declared.place.Spot.the-variants.{At, Refused}
-
--- the part of a row that is tested by itself
-abbrev pub rowHolds : Var → Bool
-rowHolds v = leb (v .rank) maxRank && between 1 6 (v .code)
 
 -- what the answer of a function that places an element means
 abbrev pub ofSpot : Spot → Step ℕ

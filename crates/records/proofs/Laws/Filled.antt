@@ -22,7 +22,7 @@ use Rattle.reads.specs.Kept.{wholeBytes, keptAs}
 use Rattle.reads.specs.Reads.{recordAt, elementAt, bits, holds, recordFrom, wholeFrom}
 use Rattle.reads.specs.Inner.Spot.{Bounded}
 use Rattle.records.specs.Inner.Stretch.{recordStretch, wholeStretch, recordPlaced, wholePlaced, filled}
-use Rattle.reads.specs.declared.variable.Spread.{Spread}
+use Rattle.found.specs.declared.variable.Spread.{Spread}
 use Rattle.records.specs.declared.stretch.Stretch.{Stretch}
 use Rattle.reads.proofs.Laws.Reads.{held}
 use Rattle.reads.proofs.Laws.Kept.{as-came}

@@ -10,7 +10,7 @@ use Rattle.cdf.proofs.Laws.Step.{by-true, by-false}
 use Rattle.reads.specs.Kept.{wholeBytes}
 use Rattle.reads.specs.Reads.{recordAt, holds}
 use Rattle.reads.specs.Inner.Spot.{Bounded}
-use Rattle.reads.specs.declared.variable.Spread.{Spread}
+use Rattle.found.specs.declared.variable.Spread.{Spread}
 use Rattle.records.specs.Inner.Stretch.{recordStretch, wholeStretch}
 
 -- where the last record of a variable ends

@@ -8,7 +8,7 @@ use Rattle.cdf.specs.Step.{Step, got, stop, bind, test, need}
 use Rattle.decode.specs.Inner.Chunks.{ofRecord}
 use Rattle.reads.specs.Kept.{wholeBytes, keptAs}
 use Rattle.reads.specs.Reads.{recordAt, holds}
-use Rattle.reads.specs.declared.variable.Spread.{Spread}
+use Rattle.found.specs.declared.variable.Spread.{Spread}
 use Rattle.records.specs.declared.stretch.Stretch.{Stretch}
 use Rattle.records.specs.declared.stretch.Stretched.{Stretched}
 use Rattle.records.specs.declared.stretch.Stretched.the-variants.{Got, Refused}

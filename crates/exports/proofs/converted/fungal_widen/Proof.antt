@@ -1,5 +1,5 @@
-use Rattle.exports.proofs.Laws.Outputs.{converted-refused, converted-told}
-use Rattle.exports.proofs.Laws.Numbers.{convert-numbered}
+use Rattle.outputs.proofs.Laws.Outputs.{converted-refused, converted-told}
+use Rattle.outputs.proofs.Laws.Numbers.{convert-numbered}
 use Rattle.convert.specs.Convert.{convert}
 use denote.Ref.{now}
 use borrow.Author.Needs.{needs}

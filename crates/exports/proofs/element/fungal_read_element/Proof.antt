@@ -1,5 +1,5 @@
-use Rattle.exports.proofs.Laws.Outputs.{element-is}
-use Rattle.reads.specs.declared.variable.Spread.{Spread}
+use Rattle.outputs.proofs.Laws.Outputs.{element-is}
+use Rattle.found.specs.declared.variable.Spread.{Spread}
 use Rattle.reads.specs.Element.{ofTold, bitsFrom}
 use Rattle.cdf.specs.Step.{Step}
 use denote.Ref.{now}

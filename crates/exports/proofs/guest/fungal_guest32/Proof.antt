@@ -1,5 +1,5 @@
 use Rattle.exports.proofs.Laws.Reader.{load-stop, load-got}
-use Rattle.exports.proofs.Laws.Outputs.{guest-is}
+use Rattle.outputs.proofs.Laws.Outputs.{guest-is}
 use Rattle.guest32.specs.Guest.{guest32, ofAnswer}
 use mathlib.Core.Path.{sym, ap, _∙_}
 use borrow.Author.Needs.{needs}

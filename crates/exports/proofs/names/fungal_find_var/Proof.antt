@@ -1,5 +1,5 @@
 use Rattle.exports.proofs.Laws.Reader.{load-stop, load-got}
-use Rattle.exports.proofs.Laws.Outputs.{number-is}
+use Rattle.outputs.proofs.Laws.Outputs.{number-is}
 use Rattle.lookup.specs.Lookup.{findVar, ofFound}
 use mathlib.Core.Path.{sym, ap, _∙_}
 use denote.Ref.{now}

@@ -1,6 +1,6 @@
 use Rattle.exports.proofs.Laws.Reader.{load-stop, load-got}
-use Rattle.exports.proofs.Laws.Numbers.{number-stops}
-use Rattle.exports.proofs.Laws.Outputs.{name-is}
+use Rattle.outputs.proofs.Laws.Numbers.{number-stops}
+use Rattle.outputs.proofs.Laws.Outputs.{name-is}
 use Rattle.lookup.proofs.Laws.Lookup.{few, name-says, name-got}
 use Rattle.lookup.specs.Lookup.{nameOf}
 use native.Mathlib.Omega.{arith}

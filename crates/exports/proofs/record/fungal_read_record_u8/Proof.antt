@@ -1,4 +1,4 @@
-use Rattle.exports.proofs.Laws.Outputs.{of-found}
+use Rattle.outputs.proofs.Laws.Outputs.{of-found}
 use Rattle.reads.specs.Reads.{recordFrom}
 use Rattle.decode.specs.Decoded.{raw}
 use denote.Ref.{now}

@@ -1,6 +1,6 @@
 use Rattle.exports.proofs.Laws.Reader.{load-stop, load-got}
 use Rattle.exports.specs.Variable.{placed}
-use Rattle.reads.specs.Sought.{ofSought, sought}
+use Rattle.found.specs.Sought.{ofSought, sought}
 use Rattle.cdf.proofs.Laws.Step.{by-got, by-stop, leaves-stop}
 use Rattle.cdf.specs.Step.{bind, numberOf, givenOr}
 use mathlib.Core.Path.{refl, sym, ap, _∙_}

@@ -3,7 +3,7 @@ use mathlib.Core.Path.{sym, ap, _∙_}
 use borrow.Author.Tests.{not-true, not-false}
 use Rattle.sizes.specs.Inner.Sizes.{ofCounted}
 use Rattle.sizes.proofs.Laws.Records.{sum-in}
-use Rattle.reads.proofs.Laws.Sought.{tables-parts}
+use Rattle.found.proofs.Laws.Sought.{tables-parts}
 use Rattle.guest32.proofs.Laws.Guest.{guest-tables, guest-refused, guest-counted}
 use borrow.Author.Needs.{needs}
 use Rattle.guest32.proofs.guest.guest32.Statement.{statement}

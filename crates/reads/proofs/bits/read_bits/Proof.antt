@@ -1,5 +1,5 @@
 use Rattle.reads.specs.Element.{bitsFrom}
-use Rattle.reads.specs.Sought.{ofSought}
+use Rattle.found.specs.Sought.{ofSought}
 use mathlib.Core.Path.{sym, ap, _∙_}
 use Rattle.cdf.proofs.Laws.Step.{by-got, by-stop}
 use Rattle.reads.proofs.Laws.Kept.{kept-bounded}

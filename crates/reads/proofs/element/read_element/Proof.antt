@@ -1,5 +1,5 @@
 use Rattle.reads.specs.Element.{elementFrom}
-use Rattle.reads.specs.Sought.{ofSought}
+use Rattle.found.specs.Sought.{ofSought}
 use mathlib.Core.Path.{sym, ap, _∙_}
 use Rattle.reads.proofs.Laws.Element.{answer-stop, answer-got}
 use Rattle.reads.proofs.Laws.Kept.{kept-bounded}

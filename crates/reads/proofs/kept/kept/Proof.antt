@@ -1,4 +1,4 @@
-use Rattle.reads.specs.Sought.{ofSought}
+use Rattle.found.specs.Sought.{ofSought}
 use borrow.Author.Tests.{not-true, not-false}
 use mathlib.Core.Path.{sym, ap, _∙_}
 use Rattle.reads.proofs.Laws.Kept.{kept-stop, kept-broken, kept-got}

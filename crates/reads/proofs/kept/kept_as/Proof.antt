@@ -1,4 +1,4 @@
-use Rattle.reads.specs.Sought.{ofSought}
+use Rattle.found.specs.Sought.{ofSought}
 use mathlib.Core.Path.{sym, ap, _∙_}
 use Rattle.reads.proofs.Laws.Kept.{as-stop, as-other, as-got}
 use borrow.Author.Needs.{needs}

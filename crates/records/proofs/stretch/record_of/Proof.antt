@@ -1,6 +1,6 @@
 use mathlib.Core.Path.{sym, ap, _∙_}
 use Rattle.cdf.proofs.Laws.Step.{by-got, by-stop}
-use Rattle.reads.specs.Sought.{ofSought}
+use Rattle.found.specs.Sought.{ofSought}
 use Rattle.records.specs.Inner.Stretch.{recordPlaced}
 use Rattle.reads.proofs.Laws.Kept.{as-came}
 use borrow.Author.Needs.{needs}

@@ -1,7 +1,7 @@
 use borrow.Author.Needs.{needs}
 use mathlib.Core.Path.{sym, ap, _∙_}
 use Rattle.cdf.proofs.Laws.Step.{by-got, by-stop}
-use Rattle.reads.specs.Sought.{ofSought}
+use Rattle.found.specs.Sought.{ofSought}
 use Rattle.records.specs.Inner.Stretch.{wholePlaced}
 use Rattle.reads.proofs.Laws.Kept.{as-came}
 use Rattle.records.proofs.stretch.whole_of.Statement.{statement}

@@ -4,7 +4,7 @@ ghost use mathlib.Core.Bool.{cond};
 ghost use Prim.Native.Nat.{ℕ, _≤_, _<_};
 ghost use Rattle.grammar.specs.Tables.{idAt};
 ghost use Rattle.sizes.specs.Records.{chunk, recordSize, maxChunk};
-ghost use Rattle.reads.specs.Sought.{spread, sought, ofSought};
+ghost use Rattle.found.specs.Sought.{spread, sought, ofSought};
 use crate::tested::tables_hold;
 use grammar::tables::Tables;
 use grammar::tables::Var;

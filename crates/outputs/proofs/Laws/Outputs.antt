@@ -3,14 +3,14 @@ use Prim.Native.Nat.{ℕ}
 use mathlib.Core.Path.{_≡_, refl, sym, ap, _∙_}
 use mathlib.Core.List.{List}
 use Rattle.cdf.specs.Step.{Step, got, stop, numberOf, givenOr, Leaves}
-use Rattle.reads.specs.declared.variable.Spread.{Spread}
+use Rattle.found.specs.declared.variable.Spread.{Spread}
 use Rattle.reads.specs.declared.bits.Bits.{Bits}
 use Rattle.guest32.specs.declared.guest.Guest.{Guest}
 use Rattle.model.specs.Model.{Span}
 use Rattle.convert.specs.Convert.{New, answerOf, outputOr}
 use Rattle.convert.specs.declared.convert.Converted.{Converted}
-use Rattle.exports.specs.Outputs.{partOr, Gets, TellsList, TellsNumber, TellsName, TellsElement, TellsConverted, TellsGuest}
-use Rattle.exports.proofs.Laws.Numbers.{Numbered}
+use Rattle.outputs.specs.Outputs.{partOr, Gets, TellsList, TellsNumber, TellsName, TellsElement, TellsConverted, TellsGuest}
+use Rattle.outputs.proofs.Laws.Numbers.{Numbered}
 
 -- what a read leaves of a variable that was found, found otherwise
 pub of-found : {A : Type 0} (out : List A) {k : ℕ} {new : List A} {m n : Step Spread} (f : Step Spread → Step (List A)) → m ≡ n → (k ≡ numberOf (f m)) × (new ≡ givenOr out (f m)) → Leaves out (f n) k new

@@ -1,10 +1,10 @@
 use Rattle.items.specs.Types.{sizeOf}
 use mathlib.Core.Bool.{Bool, cond}
 use mathlib.Core.Path.{ap, _∙_}
-use Rattle.reads.proofs.Laws.Sought.{described}
+use Rattle.found.proofs.Laws.Sought.{described}
 use borrow.Author.Needs.{needs}
-use Rattle.reads.proofs.variable.described.Statement.{statement}
-use Rattle.reads.proofs.variable.described.Tie as tie
+use Rattle.found.proofs.variable.described.Statement.{statement}
+use Rattle.found.proofs.variable.described.Tie as tie
 
 cast-of-code : tie.Need-cast-of-code
 cast-of-code c = search needs

@@ -2,8 +2,8 @@
 ghost use mathlib.Core.Path.{_≡_};
 ghost use mathlib.Core.Bool.{true};
 ghost use Rattle.sizes.specs.Records.{recordSize};
-ghost use Rattle.reads.specs.Sought.{shapeHolds, tablesHold};
-ghost use Rattle.reads.specs.Inner.Spot.{rowHolds};
+ghost use Rattle.found.specs.Sought.{shapeHolds, tablesHold};
+ghost use Rattle.found.specs.Inner.Row.{rowHolds};
 use grammar::tables::MAX_DIMS;
 use grammar::tables::MAX_RANK;
 use grammar::tables::MAX_VARS;

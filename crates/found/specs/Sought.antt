@@ -10,9 +10,9 @@ use Rattle.grammar.specs.declared.tables.Var.{Var}
 use Rattle.grammar.specs.declared.tables.Tables.{Tables}
 use Rattle.model.specs.Model.{idsHold}
 use Rattle.sizes.specs.Records.{isRecord, chunk, recordSize, sizesHold, endsHold}
-use Rattle.reads.specs.declared.variable.Spread.{Spread}
-use Rattle.reads.specs.declared.variable.Sought.{Sought}
-use Rattle.reads.specs.declared.variable.Sought.the-variants.{Got, Refused}
+use Rattle.found.specs.declared.variable.Spread.{Spread}
+use Rattle.found.specs.declared.variable.Sought.{Sought}
+use Rattle.found.specs.declared.variable.Sought.the-variants.{Got, Refused}
 
 -- 01, number 23: "a read tests the numbers of dimensions, variables and dimensions a variable, .. type codes"
 unfoldable pub shapeHolds : Tables → Bool

@@ -3,10 +3,10 @@ use mathlib.Core.Path.{sym, ap, _∙_}
 use Rattle.sizes.specs.declared.records.Sizes.{Sizes}
 use Rattle.sizes.proofs.Laws.Count.{ends-by}
 use Rattle.sizes.proofs.Laws.Records.{never}
-use Rattle.reads.proofs.Laws.Sought.{shaped, tables-shape, tables-ids, tables-sizes, tables-ends}
+use Rattle.found.proofs.Laws.Sought.{shaped, tables-shape, tables-ids, tables-sizes, tables-ends}
 use borrow.Author.Needs.{needs}
-use Rattle.reads.proofs.tested.tables_hold.Statement.{statement}
-use Rattle.reads.proofs.tested.tables_hold.Tie as tie
+use Rattle.found.proofs.tested.tables_hold.Statement.{statement}
+use Rattle.found.proofs.tested.tables_hold.Tie as tie
 
 shape-holds-requires : tie.Need-shape-holds-requires
 shape-holds-requires c κs = search needs

@@ -1,8 +1,8 @@
 use borrow.Author.Needs.{needs}
 use native.Mathlib.Omega.{arith}
-use Rattle.reads.proofs.Laws.Sought.{row-rank, row-low, row-high}
-use Rattle.reads.proofs.tested.row_holds.Statement.{statement}
-use Rattle.reads.proofs.tested.row_holds.Tie as tie
+use Rattle.found.proofs.Laws.Sought.{row-rank, row-low, row-high}
+use Rattle.found.proofs.tested.row_holds.Statement.{statement}
+use Rattle.found.proofs.tested.row_holds.Tie as tie
 
 cast-rank : tie.Need-cast-rank
 cast-rank c = search needs

@@ -6,10 +6,10 @@ use borrow.Author.Needs.{needs}
 use borrow.Author.Tests.{not-true, not-false}
 use borrow.Author.Count.{below-none, below-more}
 use Rattle.grammar.specs.Tables.{varAt}
-use Rattle.reads.specs.Inner.Spot.{rowHolds}
-use Rattle.reads.proofs.Laws.Sought.{shape-dims, shape-vars, shape-row, shape-all}
-use Rattle.reads.proofs.tested.shape_holds.Statement.{statement}
-use Rattle.reads.proofs.tested.shape_holds.Tie as tie
+use Rattle.found.specs.Inner.Row.{rowHolds}
+use Rattle.found.proofs.Laws.Sought.{shape-dims, shape-vars, shape-row, shape-all}
+use Rattle.found.proofs.tested.shape_holds.Statement.{statement}
+use Rattle.found.proofs.tested.shape_holds.Tie as tie
 
 abbrev Inv-loop : tie.InvT-loop
 Inv-loop t vars i₀ i = (i ≤ t .nvars) × ((k : ℕ) → k < i → rowHolds (varAt t k) ≡ true)

@@ -20,9 +20,9 @@ use Rattle.sizes.specs.Records.{isRecord, chunk, chunkBytes, paddedBytes, recor
 use Rattle.sizes.specs.Inner.Sizes.{capped}
 use Rattle.sizes.proofs.Laws.Records.{capped-in, chunk-in}
 use Rattle.items.proofs.Laws.Types.{size-pos}
-use Rattle.reads.specs.Sought.{shapeHolds, tablesHold, spread, sought, soughtAs}
-use Rattle.reads.specs.Inner.Spot.{rowHolds}
-use Rattle.reads.specs.declared.variable.Spread.{Spread}
+use Rattle.found.specs.Sought.{shapeHolds, tablesHold, spread, sought, soughtAs}
+use Rattle.found.specs.Inner.Row.{rowHolds}
+use Rattle.found.specs.declared.variable.Spread.{Spread}
 
 module _ (v : Var) where
   pub row-rank : 8 < v .rank → false ≡ rowHolds v

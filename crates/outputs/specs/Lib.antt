@@ -1,0 +1,2 @@
+-- How an answer crosses to another language.
+pub mod Outputs
