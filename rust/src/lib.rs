@@ -85,6 +85,7 @@ mod file_reader;
 mod guest32;
 mod header;
 mod opening;
+mod reach;
 mod reads;
 mod refusal;
 mod source;

@@ -24,7 +24,8 @@ const LARGEST: u64 = 1 << 62;
 /// ```
 #[derive(Debug, Clone)]
 pub struct Opening {
-    /// The file's first bytes: all of the header where it is accepted, and at least up to the place where it is refused.
+    /// The file's first bytes: all of the header where it is accepted, and at least up to the place where it is refused. Where a
+    /// file ends inside the values of an attribute, which its count of them puts far behind the end, those are left out.
     pub prefix: Vec<u8>,
     /// The whole file's size.
     pub size: u64,
@@ -41,7 +42,7 @@ impl Opening {
     }
 
     /// Of something that can only be read on, as a pipe: it is read to its end, for its size, and no more is kept than the
-    /// header needs.
+    /// header needs, or claims to.
     ///
     /// ```
     /// use fungalcove::{example, Opening, Versions};

@@ -85,6 +85,11 @@ impl Refusal {
         Refusal { number, place }
     }
 
+    /// A file that ends, at its size, inside its header.
+    pub(crate) fn cut_off(size: u64) -> Refusal {
+        Refusal { number: 2, place: Some(size) }
+    }
+
     pub(crate) fn without_place(number: u8) -> Refusal {
         Refusal { number, place: None }
     }

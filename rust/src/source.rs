@@ -1,5 +1,6 @@
 //! Bytes out of something that is read and sought.
 
+use crate::reach::reach;
 use crate::Refusal;
 use std::io::{self, Read, Seek, SeekFrom};
 
@@ -26,7 +27,8 @@ impl<R: Read + Seek> Source<R> {
         self.reader
     }
 
-    /// The file's first bytes, and what `ask` answers to them and the size: more of them as long as it wants more.
+    /// The file's first bytes, and what `ask` answers to them and the size: more of them as long as it wants more and the file can
+    /// have all of a header that starts so.
     pub(crate) fn ask_prefix<T>(
         &mut self,
         ask: impl Fn(&[u8], u64) -> Result<T, Refusal>,
@@ -36,7 +38,14 @@ impl<R: Read + Seek> Source<R> {
         loop {
             self.extend(&mut prefix, wanted)?;
             match ask(&prefix, self.size) {
-                Err(Refusal { number: 1, .. }) => wanted = wanted.saturating_mul(2),
+                Err(Refusal { number: 1, .. }) => {
+                    let end = reach(&prefix);
+                    // only an attribute's values reach so far; a shorter step is asked with all that there is
+                    if end > self.size && end - prefix.len() as u64 > FIRST_PREFIX {
+                        return Ok((prefix, Err(Refusal::cut_off(self.size))));
+                    }
+                    wanted = end.max(wanted.saturating_mul(2));
+                }
                 answer => return Ok((prefix, answer)),
             }
         }

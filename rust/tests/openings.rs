@@ -93,6 +93,25 @@ fn little_is_read_of_a_file() {
     assert!(file.handed_out <= 4096);
 }
 
+/// A damaged count puts an attribute's values behind the file's end: 2, and the file is not read for it.
+#[test]
+fn little_is_read_of_a_damaged_file() {
+    let header = Header::read(example::STATION, example::STATION.len() as u64, Versions::BOTH).unwrap();
+    let values = header.attribute("title").unwrap().bytes();
+    let start = values.as_ptr() as usize - header.bytes().as_ptr() as usize;
+    for (count, size, read) in [(0x7FFF_FFFF_u32, 1 << 30, 4096), (5000, 4500, 4500), (100_000, 5000, 4096)] {
+        let mut damaged = example::STATION.to_vec();
+        damaged[start - 4..start].copy_from_slice(&count.to_be_bytes());
+        let mut file = Pretended::new(damaged.clone(), size);
+        let opening = Opening::of_file(&mut file, Versions::BOTH).unwrap();
+        assert_eq!((told(&opening), file.handed_out), ((2, Some(size), 0, 0), read));
+        if size < 10_000 {
+            damaged.resize(size as usize, 0);
+            assert_eq!(Header::read(&damaged, size, Versions::BOTH).unwrap_err(), opening.answer.unwrap_err());
+        }
+    }
+}
+
 #[test]
 fn a_stream_that_fails() {
     for at in [0, 40, 85] {
