@@ -13,13 +13,13 @@ def build():
     subprocess.run(["cargo", "build", "--release", "--quiet"], cwd=HOME, env=quiet, check=True)
 
 
-def ask(lines):
+def ask(lines, program=PROGRAM):
     """One answer a line; 'abort' where the program ended on it, and on with the next."""
     plain = dict(os.environ, RUST_BACKTRACE="0")
     answers = []
     while len(answers) < len(lines):
         rest = "".join(line + "\n" for line in lines[len(answers) : len(answers) + BATCH])
-        run = subprocess.run(PROGRAM, input=rest, stdout=subprocess.PIPE, stderr=subprocess.DEVNULL, text=True, env=plain)
+        run = subprocess.run(program, input=rest, stdout=subprocess.PIPE, stderr=subprocess.DEVNULL, text=True, env=plain)
         answers += run.stdout.splitlines()
         if run.returncode:
             answers.append("abort")

@@ -1,5 +1,7 @@
-//! Places, types by their codes, and values as short texts.
+//! Places, counts, types by their codes, and values as short texts.
 
+use crate::values::Shown;
+use fungalcove::Value;
 use std::ops::Range;
 
 /// What the grammar calls a type: its tag, a list of its values, and the values without their padding.
@@ -34,9 +36,25 @@ pub fn inclusive(bytes: Range<u64>) -> String {
     }
 }
 
-/// A number of up to 8 bytes, big-endian.
-pub fn number(bytes: &[u8]) -> u64 {
+/// A number of up to 8 bytes.
+pub fn big_endian(bytes: &[u8]) -> u64 {
     bytes.iter().fold(0, |number, byte| number << 8 | u64::from(*byte))
+}
+
+/// How many bytes fill up others to a multiple of 4.
+pub fn padding(bytes: u128) -> u128 {
+    (4 - bytes % 4) % 4
+}
+
+/// As in `1 record`, `2 records`.
+pub fn counted(n: u64, what: &str) -> String {
+    format!("{} {}{}", n, what, if n == 1 { "" } else { "s" })
+}
+
+/// A text on one line: what would end the line, or move about the terminal, is escaped.
+pub fn one_line(text: &str) -> String {
+    let escaped = |c: char| if c.is_control() { c.escape_debug().to_string() } else { c.to_string() };
+    text.chars().map(escaped).collect()
 }
 
 /// A text in quotes, cut where it is long; control characters are escaped, and bytes that are no characters are `\xDD`.
@@ -61,20 +79,27 @@ fn first_character(bytes: &[u8]) -> usize {
     (1..=most).find(|n| std::str::from_utf8(&bytes[..*n]).is_ok()).unwrap_or(1)
 }
 
+/// The value of the type of a code that some bytes spell.
+pub fn value(code: u32, bytes: &[u8]) -> Value {
+    let bits = big_endian(bytes);
+    match code {
+        1 => Value::Byte(bits as i8),
+        2 => Value::Char(bits as u8),
+        3 => Value::Short(bits as i16),
+        4 => Value::Int(bits as i32),
+        5 => Value::Float(f32::from_bits(bits as u32)),
+        _ => Value::Double(f64::from_bits(bits)),
+    }
+}
+
 /// Values of the type of a code.
-pub fn shown(code: u32, bytes: &[u8]) -> String {
-    let one = |bytes: &[u8]| match code {
-        1 => (number(bytes) as i8).to_string(),
-        3 => (number(bytes) as i16).to_string(),
-        4 => (number(bytes) as i32).to_string(),
-        5 => format!("{:?}", f32::from_bits(number(bytes) as u32)),
-        _ => format!("{:?}", f64::from_bits(number(bytes))),
-    };
+pub fn values(code: u32, bytes: &[u8]) -> String {
     if code == 2 {
         return text(bytes);
     }
     let size = TYPES[code as usize].size;
-    let mut parts: Vec<String> = bytes.chunks(size).take(NUMBERS).map(one).collect();
+    let shown = |bytes: &[u8]| Shown(value(code, bytes)).to_string();
+    let mut parts: Vec<String> = bytes.chunks(size).take(NUMBERS).map(shown).collect();
     if bytes.len() / size > NUMBERS {
         parts.push(format!(".. {} values", bytes.len() / size));
     }

@@ -1,5 +1,6 @@
 //! `fungal check`: the answer to each file.
 
+use crate::brief::counted;
 use crate::failure::{name_of, warn, Failure, Status};
 use crate::folders::{self, Answer, Counts};
 use crate::{input, json};
@@ -13,10 +14,10 @@ pub fn run(asked: &ArgMatches) -> Result<Status, Failure> {
     let answer = |path: &Path, found: Result<(), Failure>| match found.and_then(|()| input::open(path, versions)) {
         Ok(opening) if json => Answer::line(json::of_file(path, object(&opening)), status(&opening)),
         Ok(opening) => Answer::line(line(path, &opening), status(&opening)),
-        Err(failure) if json => Answer::line(json::of_file(path, json::failure(&failure)), Status::Unread),
+        Err(failure) if json => Answer::line(json::of_file(path, json::failure(&failure)), Status::Failed),
         Err(failure) => Answer::failure(failure),
     };
-    let words = |counts: Counts| format!("{} files, {} refused", counts.all(), counts.of(Status::Bad));
+    let words = |counts: Counts| format!("{}, {} refused", counted(counts.all(), "file"), counts.of(Status::Bad));
     let counts = folders::each(asked, answer, words)?;
     if asked.get_flag("recursive") {
         warn(summary(counts));
@@ -44,8 +45,8 @@ fn status(opening: &Opening) -> Status {
 }
 
 fn summary(counts: Counts) -> String {
-    let [accepted, refused, unread] = [Status::Good, Status::Bad, Status::Unread].map(|status| counts.of(status));
-    format!("{} files: {} accepted, {} refused, {} not read", counts.all(), accepted, refused, unread)
+    let [accepted, refused, unread] = [Status::Good, Status::Bad, Status::Failed].map(|status| counts.of(status));
+    format!("{}: {} accepted, {} refused, {} not read", counted(counts.all(), "file"), accepted, refused, unread)
 }
 
 fn line(path: &Path, opening: &Opening) -> String {

@@ -1,6 +1,7 @@
 //! `fungal widen` and `fungal narrow`: whole files, written under another name until they are complete.
 
 use crate::failure::{Failure, Status};
+use crate::input::{not_sought, STDIN};
 use crate::partial::Partial;
 use clap::ArgMatches;
 use fungalcove::{narrow_file, widen_file, Error};
@@ -28,12 +29,7 @@ pub fn narrow(asked: &ArgMatches) -> Result<Status, Failure> {
 fn convert(asked: &ArgMatches, conversion: Conversion) -> Result<Status, Failure> {
     let path = |id: &str| asked.get_one::<PathBuf>(id).expect("clap asks for it");
     let (old, new) = (path("in"), path("out"));
-    // looked at before it is opened: to open a pipe may take for ever
-    let metadata = fs::metadata(old).map_err(|error| Failure::of(old, error))?;
-    if !metadata.is_file() {
-        return Err(Failure::said(old, "is no file; save the input to one first"));
-    }
-    let file = File::open(old).map_err(|error| Failure::of(old, error))?;
+    let (file, metadata) = open(old)?;
     let (target, replaced) = target(new, &metadata, asked.get_flag("force"))?;
     let mut partial = Partial::new(&target, metadata.mode() & PERMISSIONS);
     conversion(file, &mut partial).map_err(|error| blame(error, old, new, &partial))?;
@@ -44,17 +40,33 @@ fn convert(asked: &ArgMatches, conversion: Conversion) -> Result<Status, Failure
     Ok(Status::Good)
 }
 
+/// The old file. It is looked at before it is opened: to open a pipe may take for ever.
+fn open(old: &Path) -> Result<(File, Metadata), Failure> {
+    if old == Path::new(STDIN) {
+        return Err(not_sought(old));
+    }
+    let metadata = fs::metadata(old).map_err(|error| Failure::of(old, error))?;
+    if !metadata.is_file() {
+        return Err(not_sought(old));
+    }
+    let file = File::open(old).map_err(|error| Failure::of(old, error))?;
+    Ok((file, metadata))
+}
+
 /// Where the new file goes, and the permissions of the one that it replaces. A link is followed, so that it stays one.
 fn target(new: &Path, old: &Metadata, force: bool) -> Result<(PathBuf, Option<Permissions>), Failure> {
+    if new == Path::new(STDIN) {
+        return Err(Failure::unfit(new, "stands for no file here; name one (./- is one that is called so)"));
+    }
     if fs::symlink_metadata(new).is_err() {
         return Ok((new.to_path_buf(), None));
     }
     let there = fs::metadata(new).map_err(|error| Failure::of(new, error))?;
     if (there.dev(), there.ino()) == (old.dev(), old.ino()) {
-        return Err(Failure::said(new, "is the file that is converted; choose another OUT"));
+        return Err(Failure::unfit(new, "is the file that is converted; choose another OUT"));
     }
     if !there.is_file() {
-        return Err(Failure::said(new, "is no file that could be replaced; choose another OUT"));
+        return Err(Failure::unfit(new, "is no file that could be replaced; choose another OUT"));
     }
     if !force {
         return Err(taken(new));
@@ -64,7 +76,7 @@ fn target(new: &Path, old: &Metadata, force: bool) -> Result<(PathBuf, Option<Pe
 }
 
 fn taken(new: &Path) -> Failure {
-    Failure::said(new, "is there already; -f replaces it")
+    Failure::unfit(new, "is there already; -f replaces it")
 }
 
 /// A refusal is about the old file; other errors are about the one that failed.

@@ -1,5 +1,6 @@
 //! What ends a command before its work is done, and the exit statuses.
 
+use crate::brief::one_line;
 use crate::numbers;
 use fungalcove::{Error, Refusal};
 use std::fmt::{self, Display};
@@ -15,7 +16,7 @@ pub enum Status {
     /// A file is refused, differs or is suspect.
     Bad,
     /// A file could not be read or written, or the command line is wrong.
-    Unread,
+    Failed,
 }
 
 impl From<Status> for ExitCode {
@@ -31,6 +32,8 @@ pub enum Failure {
     Refused(String, Refusal),
     /// A file can't be read or written.
     Io(String, io::Error),
+    /// A file is not what is wanted; the words say what to do.
+    Unfit(String, &'static str),
     /// Something else is wrong; the words say what to do.
     Said(String),
     /// The command's own output can't be written.
@@ -47,14 +50,14 @@ impl Failure {
     }
 
     /// Of a file that is not what is wanted.
-    pub fn said(file: &Path, words: &str) -> Failure {
-        Failure::Said(format!("{}: {}", name_of(file), words))
+    pub fn unfit(file: &Path, words: &'static str) -> Failure {
+        Failure::Unfit(name_of(file), words)
     }
 
     pub fn status(&self) -> Status {
         match self {
             Failure::Refused(..) => Status::Bad,
-            _ => Status::Unread,
+            _ => Status::Failed,
         }
     }
 
@@ -72,10 +75,9 @@ pub fn warn(words: impl Display) {
     let _ = writeln!(io::stderr(), "fungal: {}", words);
 }
 
-/// A file's name on one line: what would end the line, or move about the terminal, is escaped.
+/// A file's name on one line.
 pub fn name_of(file: &Path) -> String {
-    let escaped = |c: char| if c.is_control() { c.escape_debug().to_string() } else { c.to_string() };
-    file.to_string_lossy().chars().map(escaped).collect()
+    one_line(&file.to_string_lossy())
 }
 
 impl Display for Failure {
@@ -85,17 +87,26 @@ impl Display for Failure {
                 write!(f, "{}: {}\n  {}", file, refusal, numbers::advice(refusal.number))
             }
             Failure::Io(file, error) => write!(f, "{}: {}", file, words(error)),
+            Failure::Unfit(file, words) => write!(f, "{}: {}", file, words),
             Failure::Said(words) => f.write_str(words),
             Failure::Output(error) => write!(f, "the output can't be written: {}", error),
         }
     }
 }
 
-/// An error's own words, where they say something of the file.
+/// Linux's numbers for a full disk, a quota that is used up, and a file that may not grow as large.
+const NO_ROOM: [i32; 3] = [28, 122, 27];
+
+/// The system's words for an error, and what to do about it.
 pub fn words(error: &io::Error) -> String {
+    let said = error.to_string();
+    let said = said.split(" (os error").next().unwrap_or_default();
     match error.kind() {
-        io::ErrorKind::UnexpectedEof => "became shorter while it was read".to_string(),
-        _ => error.to_string(),
+        io::ErrorKind::UnexpectedEof => "became shorter while it was read; try again when nobody writes it".to_string(),
+        io::ErrorKind::NotFound => format!("{}; look at the spelling of its name and of its folder's", said),
+        io::ErrorKind::PermissionDenied => format!("{}; ask its owner, or the owner of its folder", said),
+        _ if NO_ROOM.map(Some).contains(&error.raw_os_error()) => format!("{}; choose a place with more room", said),
+        _ => said.to_string(),
     }
 }
 

@@ -24,7 +24,7 @@ impl Answer {
     }
 
     pub fn failure(failure: Failure) -> Answer {
-        Answer { line: None, failure: Some(failure), status: Status::Unread }
+        Answer { line: None, failure: Some(failure), status: Status::Failed }
     }
 }
 
@@ -44,7 +44,7 @@ impl Counts {
     /// The worst that there was.
     pub fn status(&self) -> Status {
         let found = |status: &Status| self.of(*status) > 0;
-        [Status::Unread, Status::Bad].into_iter().find(found).unwrap_or(Status::Good)
+        [Status::Failed, Status::Bad].into_iter().find(found).unwrap_or(Status::Good)
     }
 }
 

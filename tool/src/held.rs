@@ -4,6 +4,9 @@ use fungalcove::{Refusal, Value, Variable, Window};
 use std::fs::File;
 use std::io::{self, Read, Seek, SeekFrom};
 
+/// How much is fetched of a place at first.
+const LITTLE: u64 = 1 << 12;
+
 pub struct Held<'f> {
     file: &'f File,
     /// The file's size.
@@ -25,16 +28,22 @@ impl<'f> Held<'f> {
         if at < self.size {
             let mut file = self.file;
             file.seek(SeekFrom::Start(at))?;
-            file.take(most.min(self.size - at)).read_to_end(&mut self.piece)?;
+            let wanted = most.min(self.size - at);
+            if (file.take(wanted).read_to_end(&mut self.piece)? as u64) < wanted {
+                return Err(io::ErrorKind::UnexpectedEof.into());
+            }
         }
         Ok(())
     }
 
-    /// Bytes from a place on, as many as are held; `most` are fetched where none are. None where the file ends before it.
+    /// Bytes from a place on, as many as are held; where none are, up to `most` are fetched, the more of them the longer one piece
+    /// has followed the other. None where the file ends before it.
     pub fn from(&mut self, at: u64, most: u64) -> io::Result<&[u8]> {
         let end = self.start + self.piece.len() as u64;
         if !(self.start..end).contains(&at) {
-            self.fetch(at, most)?;
+            let follows = at.wrapping_sub(end) < LITTLE;
+            let more = if follows { LITTLE.max(2 * self.piece.len() as u64) } else { LITTLE };
+            self.fetch(at, more.min(most))?;
         }
         Ok(&self.piece[(at - self.start) as usize..])
     }

@@ -23,6 +23,7 @@ pub fn failure(failure: &Failure) -> Value {
             json!({ "number": refusal.number, "words": refusal.words(), "place": refusal.place })
         }
         Failure::Io(_, error) => json!({ "error": words(error) }),
+        Failure::Unfit(_, words) => json!({ "error": words }),
         other => json!({ "error": other.to_string() }),
     }
 }

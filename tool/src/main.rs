@@ -1,5 +1,7 @@
 //! fungal: what people ask of NetCDF-3 files. Every answer about a file comes from the proved library, by the crate `fungalcove`.
 
+#![forbid(unsafe_code)]
+
 mod brief;
 mod cdl;
 mod check;
@@ -31,7 +33,7 @@ use std::process::ExitCode;
 fn main() -> ExitCode {
     let ended = match cli::command().get_matches().subcommand() {
         Some((name, asked)) => run(name, asked),
-        None => Ok(Status::Unread),
+        None => Ok(Status::Failed),
     };
     match ended {
         Ok(status) => status.into(),

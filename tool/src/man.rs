@@ -35,7 +35,7 @@ fn subcommand(out: &mut impl Write, command: &Command) -> io::Result<()> {
 
 /// As in `[--admit VERSION]` or `FILE..`.
 fn usage(argument: &Arg) -> String {
-    if argument.is_positional() {
+    if argument.is_required_set() {
         usage_of(argument)
     } else {
         format!("[{}]", usage_of(argument))

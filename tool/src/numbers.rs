@@ -5,50 +5,46 @@ use std::io::{self, Write};
 
 /// What whoever meets a number may do about it.
 pub fn advice(number: u8) -> &'static str {
-    match number {
-        0 => "nothing is wrong",
-        1 => "more of the file's first bytes are wanted; of a whole file the number is 2",
-        2 => "the file ends inside its header: it was cut off when it was written or copied; fetch it again",
-        3 => "this is no NetCDF-3 file; one that starts with \\x89HDF is netCDF-4, and `nccopy -k classic` converts it",
-        4 => "classic (1) and 64-bit offset (2) are read, and what --admit leaves of them; CDF-5 is not",
-        5 => "no count, length or id lies above 2147483647: the header is damaged, `fungal explain` shows where",
-        6 => "names are UTF-8; an old writer may have put down another encoding",
-        7 => "in a header the bytes that fill up to four are zero; some old writers leave there what was in memory",
-        8 => "the types are 1 to 6; those from 7 up belong to CDF-5",
-        9 => "what should start a list starts none: the header is damaged, `fungal explain` shows where",
-        10 => {
-            "the file may be in order, but this reader has no room for more than 32 dimensions, 64 variables, 128 \
-               attributes in all, 8 dimensions a variable and 256 bytes a name"
-        }
-        11 => {
-            "a name is empty or twice in its list, two dimensions are unlimited, an id names no dimension, or the \
-               unlimited dimension is not a variable's first; `fungal explain` names the item"
-        }
-        12 => "a place or a size that no file has: the header is damaged, `fungal explain` names the variable",
-        13 => {
-            "the count is left open, and the file ends inside a record: it was cut off, or bytes follow the last one; \
-               or its only record variable has bytes, characters or shorts, which netCDF's library does not pad"
-        }
-        14 => "the count is left open, and the file ends before its first record: it was cut off",
-        15 => "the count or a place is out of all proportion: the header is damaged",
-        16 => "`fungal show FILE` lists the variables; names are spelled as in the file",
-        17 => "ask for the type that the variable has",
-        18 => {
-            "records count from 0; `fungal show FILE` says how many there are, and a fixed variable has record 0 only"
-        }
-        19 => "elements count from 0, inside a record",
-        20 => {
-            "the file ends before these values: it was cut off, or its only record variable has bytes, characters or \
-               shorts, which netCDF's library does not pad"
-        }
-        21 => "no file of more than 2^62 bytes is read",
-        22 => "the output that is lent has too little room",
-        23 => "the tables were changed since they were read",
-        24 => "a variable's values begin inside the header, so the header can't be changed",
-        25 => "version 1 reaches no further than 2147483647 bytes; leave this file in version 2",
-        _ => "",
-    }
+    ADVICE.get(usize::from(number)).copied().unwrap_or("")
 }
+
+const FOR_PROGRAMS: &str = "only programs that call the library meet this number";
+
+/// In the order of the numbers, from 0 on.
+const ADVICE: [&str; 26] = [
+    "nothing is wrong",
+    "more of the file's first bytes are wanted; of a whole file the number is 2",
+    "the file ends inside its header: it was cut off when it was written or copied, so fetch it again; or a count in the header is \
+     damaged, `fungal explain` shows where",
+    "this is no NetCDF-3 file; one that starts with \\x89HDF is netCDF-4, and `nccopy -k classic` converts it",
+    "classic (1) and 64-bit offset (2) are read, and what --admit leaves of them; CDF-5 is not",
+    "`fungal explain` shows where. A vsize, for variables of 2 to 4 GiB: netCDF's library writes such files, but this reader follows a \
+     rule that leaves them out. Any other word: the header is damaged",
+    "names are UTF-8; an old writer may have put down another encoding",
+    "in a header the bytes that fill up to four are zero; some old writers leave there what was in memory",
+    "the types are 1 to 6; those from 7 up belong to CDF-5",
+    "what should start a list starts none: the header is damaged, `fungal explain` shows where",
+    "the file may be in order, but this reader has no room for more than 32 dimensions, 64 variables, 128 attributes in all, 8 \
+     dimensions a variable and 256 bytes a name",
+    "a name is empty or twice in its list, two dimensions are unlimited, an id names no dimension, or the unlimited dimension is \
+     not a variable's first; `fungal explain` names the item",
+    "a place or a size that no file has: the header is damaged, `fungal explain` names the variable",
+    "the count is left open, and the file ends inside a record: it was cut off, or bytes follow the last one; or its only record \
+     variable has bytes, characters or shorts, which netCDF's library does not pad",
+    "the count is left open, and the file ends before its first record: it was cut off",
+    "the count or a place is out of all proportion: the header is damaged",
+    "`fungal show FILE` lists the variables; names are spelled as in the file, and a record is a whole number behind a colon",
+    FOR_PROGRAMS,
+    "records count from 0; `fungal show FILE` says how many there are, and a fixed variable has record 0 only",
+    FOR_PROGRAMS,
+    "the file ends before these values: it was cut off, or its only record variable has bytes, characters or shorts, which \
+     netCDF's library does not pad",
+    "no file of more than 2^62 bytes is read",
+    FOR_PROGRAMS,
+    FOR_PROGRAMS,
+    "a variable's values begin inside the header, so the header can't be changed",
+    "version 1 reaches no further than 2147483647 bytes; leave this file in version 2",
+];
 
 /// How wide the table is.
 const WIDTH: usize = 90;

@@ -1,6 +1,6 @@
 //! A file that is written under a temporary name and gets its own when it is complete.
 
-use signal_hook::consts::{SIGHUP, SIGINT, SIGQUIT, SIGTERM, SIGXFSZ};
+use signal_hook::consts::{SIGALRM, SIGHUP, SIGINT, SIGQUIT, SIGTERM, SIGUSR1, SIGUSR2, SIGXCPU, SIGXFSZ};
 use signal_hook::flag;
 use signal_hook::iterator::Signals;
 use signal_hook::low_level::emulate_default_handler;
@@ -13,6 +13,9 @@ use std::process;
 use std::sync::atomic::AtomicBool;
 use std::sync::{Arc, Mutex, MutexGuard};
 use std::thread;
+
+/// Signals that end a program and can be caught.
+const ENDING: [c_int; 8] = [SIGHUP, SIGINT, SIGQUIT, SIGTERM, SIGALRM, SIGUSR1, SIGUSR2, SIGXCPU];
 
 /// How many temporary names are tried.
 const TRIES: u32 = 100;
@@ -74,6 +77,7 @@ impl Partial {
         }
         file.sync_all()?;
         self.rename(replaced.is_some())?;
+        remove(&mut temporary());
         // the name itself; where a folder can't be synced, the system does it in its own time
         let folder = self.path.parent().filter(|folder| *folder != Path::new("")).unwrap_or_else(|| Path::new("."));
         if let Ok(folder) = File::open(folder) {
@@ -90,7 +94,7 @@ impl Partial {
             *temporary = None;
             return Ok(());
         }
-        // a second name is refused where it is taken, and a new name is not; the first one goes with `self`
+        // a second name is refused where it is taken, and a new name is not
         match fs::hard_link(&name, &self.path) {
             Err(error) if error.kind() != io::ErrorKind::AlreadyExists && fs::symlink_metadata(&self.path).is_err() => {
                 // a file system without second names
@@ -137,17 +141,17 @@ fn remove(temporary: &mut Option<PathBuf>) {
 fn remove_when_interrupted() -> io::Result<()> {
     flag::register(SIGXFSZ, Arc::new(AtomicBool::new(false)))?;
     let ignored = ignored_signals();
-    let heeded = [SIGHUP, SIGINT, SIGQUIT, SIGTERM].into_iter().filter(|signal| ignored >> (signal - 1) & 1 == 0);
+    let heeded = ENDING.into_iter().filter(|signal| ignored >> (signal - 1) & 1 == 0);
     let mut signals = Signals::new(heeded.collect::<Vec<c_int>>())?;
-    thread::spawn(move || {
+    let wait = move || {
         for signal in signals.forever() {
             // held to the end, so that no file is made or renamed meanwhile
             let mut temporary = temporary();
             remove(&mut temporary);
             let _ = emulate_default_handler(signal);
         }
-    });
-    Ok(())
+    };
+    thread::Builder::new().spawn(wait).map(|_| ())
 }
 
 /// The signals that the program was started to ignore, a bit for each; none where the system does not say.

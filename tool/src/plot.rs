@@ -1,6 +1,6 @@
 //! A small plot of values in plain characters.
 
-use crate::values::{number, Shown};
+use crate::values::{as_f64, Shown};
 use fungalcove::Value;
 use std::io::{self, Write};
 
@@ -11,14 +11,14 @@ const ROWS: usize = 8;
 /// Plots values, with the largest and the smallest at the left. One that is left out is a gap; an infinite one stands at the
 /// edge, as `^` or `v`. Where all are the same a single row says so.
 pub fn write(out: &mut impl Write, values: &[Option<Value>]) -> io::Result<()> {
-    let finite = || values.iter().flatten().copied().filter(|value| number(*value).is_finite());
-    let smallest = finite().min_by(|a, b| number(*a).total_cmp(&number(*b)));
-    let largest = finite().max_by(|a, b| number(*a).total_cmp(&number(*b)));
+    let finite = || values.iter().flatten().copied().filter(|value| as_f64(*value).is_finite());
+    let smallest = finite().min_by(|a, b| as_f64(*a).total_cmp(&as_f64(*b)));
+    let largest = finite().max_by(|a, b| as_f64(*a).total_cmp(&as_f64(*b)));
     let (smallest, largest) = match (smallest, largest) {
         (Some(smallest), Some(largest)) => (smallest, largest),
         _ => return writeln!(out, "\nno plot: no finite number among the first {} values", values.len()),
     };
-    let scale = Scale::new(number(smallest), number(largest));
+    let scale = Scale::new(as_f64(smallest), as_f64(largest));
     let (top, bottom) = (Shown(largest).to_string(), Shown(smallest).to_string());
     let width = top.len().max(bottom.len());
     writeln!(out, "\nthe first {} values:", values.len())?;
@@ -28,7 +28,7 @@ pub fn write(out: &mut impl Write, values: &[Option<Value>]) -> io::Result<()> {
             0 => &bottom,
             _ => "",
         };
-        let marks: String = values.iter().map(|value| scale.mark(value.map(number), row)).collect();
+        let marks: String = values.iter().map(|value| scale.mark(value.map(as_f64), row)).collect();
         writeln!(out, "{:>width$} |{}", label, marks.trim_end(), width = width)?;
     }
     Ok(())

@@ -2,10 +2,7 @@
 
 use indicatif::{ProgressBar, ProgressDrawTarget, ProgressStyle};
 use std::io::{self, Write};
-use std::time::Duration;
 
-/// How long the line stays before it is drawn anew.
-const REDRAWN: Duration = Duration::from_millis(100);
 /// Between two changes of its words so many files pass.
 const STRIDE: u64 = 16;
 
@@ -22,7 +19,6 @@ impl Progress {
         let bar = Some(ProgressBar::new_spinner()).filter(|bar| wanted && !bar.is_hidden());
         if let Some(bar) = &bar {
             bar.set_style(ProgressStyle::with_template("{spinner} {msg}").expect("a template of known fields"));
-            bar.enable_steady_tick(REDRAWN);
         }
         Progress { bar, steps: 0, beside: !ProgressDrawTarget::stdout().is_hidden() }
     }

@@ -2,7 +2,7 @@
 
 use crate::failure::Failure;
 use crate::plot;
-use crate::values::{number, Shown, Stored};
+use crate::values::{as_f64, Shown, Stored};
 use fungalcove::{DataType, Value, Variable};
 use std::io::{self, Write};
 
@@ -49,7 +49,7 @@ struct Tally {
 impl Tally {
     fn add(&mut self, value: Value) {
         let is_fill = self.fill.map_or(false, |fill| same(fill, value));
-        let is_nan = number(value).is_nan();
+        let is_nan = as_f64(value).is_nan();
         self.values += 1;
         self.fills += u64::from(is_fill);
         self.nans += u64::from(is_nan);
@@ -64,10 +64,10 @@ impl Tally {
 
     fn add_number(&mut self, value: Value) {
         self.numbers += 1;
-        if self.smallest.map_or(true, |smallest| number(value) < number(smallest)) {
+        if self.smallest.map_or(true, |smallest| as_f64(value) < as_f64(smallest)) {
             self.smallest = Some(value);
         }
-        if self.largest.map_or(true, |largest| number(value) > number(largest)) {
+        if self.largest.map_or(true, |largest| as_f64(value) > as_f64(largest)) {
             self.largest = Some(value);
         }
         match value {
@@ -111,7 +111,7 @@ impl Tally {
 
 /// Whether two values of one type have the same bits or are both NaN.
 fn same(a: Value, b: Value) -> bool {
-    let (a, b) = (number(a), number(b));
+    let (a, b) = (as_f64(a), as_f64(b));
     a.to_bits() == b.to_bits() || (a.is_nan() && b.is_nan())
 }
 

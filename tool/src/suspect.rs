@@ -1,11 +1,13 @@
 //! `fungal suspect`: the files that a 32-bit build of netcdf3 read otherwise than they are.
 
+use crate::brief::counted;
 use crate::failure::{name_of, Failure, Status};
 use crate::folders::{self, Answer, Counts};
 use crate::{input, json};
 use clap::ArgMatches;
 use fungalcove::{Guest32, Header, Versions};
 use serde_json::{json, Value};
+use std::ops::RangeInclusive;
 use std::path::Path;
 
 pub fn run(asked: &ArgMatches) -> Result<Status, Failure> {
@@ -15,18 +17,26 @@ pub fn run(asked: &ArgMatches) -> Result<Status, Failure> {
         Ok(Some((header, guest))) if json => Answer::line(json::of_file(path, object(&header, &guest)), Status::Bad),
         Ok(Some((header, guest))) => Answer::line(line(path, &header, &guest), Status::Bad),
         // a file that can't be judged is not known to be good
-        Err(failure) if json => Answer::line(json::of_file(path, json::failure(&failure)), Status::Unread),
+        Err(failure) if json => Answer::line(json::of_file(path, json::failure(&failure)), Status::Failed),
         Err(failure) => Answer::failure(failure),
     };
-    let words = |counts: Counts| format!("{} files, {} suspect", counts.all(), counts.of(Status::Bad));
+    let words = |counts: Counts| format!("{}, {} suspect", counted(counts.all(), "file"), counts.of(Status::Bad));
     Ok(folders::each(asked, answer, words)?.status())
 }
 
+/// The numbers of files that netcdf3 refuses too, on every machine: no result came of them.
+const REFUSED_BY_BOTH: RangeInclusive<u8> = 1..=9;
+
 /// The file's header and what such a build makes of it, where that is otherwise.
 fn judge(path: &Path) -> Result<Option<(Header, Guest32)>, Failure> {
-    let header = input::open(path, Versions::BOTH)?.answer.map_err(|refusal| Failure::of(path, refusal))?;
-    let guest = header.guest32();
-    Ok(Some((header, guest)).filter(|_| guest.is_suspect()))
+    match input::open(path, Versions::BOTH)?.answer {
+        Ok(header) => {
+            let guest = header.guest32();
+            Ok(Some((header, guest)).filter(|_| guest.is_suspect()))
+        }
+        Err(refusal) if REFUSED_BY_BOTH.contains(&refusal.number) => Ok(None),
+        Err(refusal) => Err(Failure::of(path, refusal)),
+    }
 }
 
 fn line(path: &Path, header: &Header, guest: &Guest32) -> String {

@@ -1,5 +1,6 @@
 //! A variable's values, streamed out of its file, and the form in which one of them is shown.
 
+use crate::brief::one_line;
 use crate::failure::{name_of, Failure};
 use crate::held::Held;
 use fungalcove::{Refusal, Value, Variable};
@@ -57,13 +58,13 @@ impl<'a> Stored<'a> {
     }
 
     fn refused(&self, record: u64, element: u64, refusal: Refusal) -> Failure {
-        let (path, name) = (name_of(self.path), self.variable.name());
+        let (path, name) = (name_of(self.path), one_line(self.variable.name()));
         Failure::Refused(format!("{}: {}, record {}, element {}", path, name, record, element), refusal)
     }
 }
 
 /// The number that a value is; a double holds those of every type.
-pub fn number(value: Value) -> f64 {
+pub fn as_f64(value: Value) -> f64 {
     match value {
         Value::Byte(value) => value.into(),
         Value::Char(value) => value.into(),
@@ -78,9 +79,18 @@ pub fn number(value: Value) -> f64 {
 /// infinite has the names that CDL has for it.
 pub struct Shown(pub Value);
 
+/// The same, with the bits of a NaN, of which there are many.
+pub fn exact(value: Value) -> String {
+    match value {
+        Value::Float(float) if float.is_nan() => format!("NaN (bits {:08x})", float.to_bits()),
+        Value::Double(double) if double.is_nan() => format!("NaN (bits {:016x})", double.to_bits()),
+        _ => Shown(value).to_string(),
+    }
+}
+
 impl fmt::Display for Shown {
     fn fmt(&self, f: &mut fmt::Formatter<'_>) -> fmt::Result {
-        match number(self.0) {
+        match as_f64(self.0) {
             infinite if infinite.is_infinite() => f.write_str(if infinite > 0.0 { "Infinity" } else { "-Infinity" }),
             _ => self.0.fmt(f),
         }

@@ -1,5 +1,7 @@
 //! What two headers say, item by item.
 
+use crate::brief::{self, one_line};
+use crate::values::exact;
 use fungalcove::{Attribute, DataType, Dimension, Header, Variable};
 use std::fmt::Display;
 
@@ -27,7 +29,11 @@ fn listed<T: PartialEq + Described>(
     let (a, b): (Vec<T>, Vec<T>) = (a.collect(), b.collect());
     let at = (0..a.len().max(b.len())).find(|i| a.get(*i) != b.get(*i))?;
     let told = |item: Option<&T>| item.map_or("nothing".to_string(), T::described);
-    Some(format!("{} {}: {} and {}", what, at, told(a.get(at)), told(b.get(at))))
+    let apart = match (a.get(at), b.get(at)) {
+        (Some(a), Some(b)) => a.apart(b),
+        (a, b) => format!("{} and {}", told(a), told(b)),
+    };
+    Some(format!("{} {}: {}", what, at, apart))
 }
 
 fn differ<T: PartialEq + Display>(what: &str, a: &T, b: &T) -> Option<String> {
@@ -37,6 +43,11 @@ fn differ<T: PartialEq + Display>(what: &str, a: &T, b: &T) -> Option<String> {
 /// How an item is named where it differs.
 trait Described {
     fn described(&self) -> String;
+
+    /// How it differs from another one.
+    fn apart(&self, other: &Self) -> String {
+        format!("{} and {}", self.described(), other.described())
+    }
 }
 
 /// A dimension's name and length; no length for the unlimited one.
@@ -64,8 +75,32 @@ fn attribute(attribute: Attribute<'_>) -> OfAttribute<'_> {
 impl Described for OfAttribute<'_> {
     fn described(&self) -> String {
         let OfAttribute(name, data_type, bytes) = self;
-        let values = crate::brief::shown(data_type.code().into(), bytes);
-        format!("{:?}, {} {}", name, data_type, values)
+        format!("{:?}, {} {}", name, data_type, brief::values(data_type.code().into(), bytes))
+    }
+
+    /// Of long values of one name and type, those from the first on that differs.
+    fn apart(&self, other: &Self) -> String {
+        let (OfAttribute(name, data_type, a), OfAttribute(other_name, other_type, b)) = (self, other);
+        if (name, data_type) != (other_name, other_type) {
+            return format!("{} and {}", self.described(), other.described());
+        }
+        let alike = a.iter().zip(b.iter()).take_while(|(a, b)| a == b).count();
+        let element = alike / data_type.size() as usize;
+        let (a, b) = (value_at(*data_type, a, element), value_at(*data_type, b, element));
+        format!("{:?}, {}, element {}: {} and {}", name, data_type, element, a, b)
+    }
+}
+
+/// A value, or of characters all from one on.
+fn value_at(data_type: DataType, bytes: &[u8], element: usize) -> String {
+    let size = data_type.size() as usize;
+    let rest = &bytes[element * size..];
+    match data_type {
+        DataType::Char => brief::text(rest),
+        _ => rest
+            .chunks(size)
+            .next()
+            .map_or("nothing".to_string(), |one| exact(brief::value(data_type.code().into(), one))),
     }
 }
 
@@ -79,6 +114,6 @@ fn shape(variable: Variable<'_>) -> OfVariable<'_> {
 
 impl Described for OfVariable<'_> {
     fn described(&self) -> String {
-        format!("{} {:?}({})", self.1, self.0, self.2.join(", "))
+        format!("{} {:?}({})", self.1, self.0, one_line(&self.2.join(", ")))
     }
 }

@@ -5,10 +5,10 @@ mod contents;
 use crate::brief::inclusive;
 use crate::failure::{name_of, warn, Failure, Status};
 use crate::held::Held;
-use crate::values::Shown;
+use crate::values::exact;
 use crate::{input, lonely};
 use clap::ArgMatches;
-use fungalcove::{Header, Value, Variable};
+use fungalcove::{Header, Variable};
 use std::fs::File;
 use std::io::{self, Write};
 use std::path::{Path, PathBuf};
@@ -22,7 +22,7 @@ pub fn run(asked: &ArgMatches) -> Result<Status, Failure> {
     let difference = match contents::difference(&a.header, &b.header) {
         Some(difference) => Some(difference),
         None => {
-            lonely::caution(a.path, &a.header, None);
+            a.header.variables().for_each(|variable| lonely::caution(a.path, &a.header, &variable));
             Compared::new(&a, &b).values()?
         }
     };
@@ -63,6 +63,8 @@ impl<'p> Side<'p> {
 struct Pair<'s> {
     a: Variable<'s>,
     b: Variable<'s>,
+    /// How many bytes behind each record are compared too: netCDF's library has values there.
+    behind: u64,
     /// Whether both files have ended before a record; what follows of it then lies behind their ends too.
     ended: bool,
 }
@@ -85,7 +87,7 @@ impl<'s> Compared<'s> {
     /// The first difference: of the fixed variables, then record by record, as they mostly lie in files.
     fn values(&mut self) -> Result<Option<String>, Failure> {
         let variables = self.a.header.variables().zip(self.b.header.variables());
-        let pairs = variables.map(|(a, b)| Pair { a, b, ended: false });
+        let pairs = variables.map(|(a, b)| Pair { a, b, behind: lonely::padding(&self.a.header, &a), ended: false });
         let (mut fixed, mut records): (Vec<_>, Vec<_>) = pairs.partition(|pair| !pair.a.is_record());
         let mut difference = self.record(&mut fixed, 0)?;
         for record in 0..self.a.header.record_count() {
@@ -117,11 +119,12 @@ impl<'s> Compared<'s> {
     fn chunk(&mut self, pair: &mut Pair<'_>, record: u64) -> Result<Option<String>, Failure> {
         let bytes = |variable: &Variable<'_>| variable.record_bytes(record).expect("a record below the count");
         let (at_a, at_b) = (bytes(&pair.a), bytes(&pair.b));
+        let length = at_a.end - at_a.start + pair.behind;
         let mut same = 0;
-        while same < at_a.end - at_a.start {
+        while same < length {
             let part_a = self.held_a.from(at_a.start + same, PIECE).map_err(self.a.failed())?;
             let part_b = self.held_b.from(at_b.start + same, PIECE).map_err(self.b.failed())?;
-            let left = (at_a.end - at_a.start - same).min(PIECE) as usize;
+            let left = (length - same).min(PIECE) as usize;
             let n = part_a.len().min(part_b.len()).min(left);
             if n == 0 {
                 let (a_ends, b_ends) = (part_a.is_empty(), part_b.is_empty());
@@ -129,7 +132,7 @@ impl<'s> Compared<'s> {
             }
             if part_a[..n] != part_b[..n] {
                 let alike = part_a.iter().zip(part_b).take_while(|(a, b)| a == b).count() as u64;
-                return self.element(pair, record, (same + alike) / pair.a.data_type().size()).map(Some);
+                return self.difference(pair, record, same + alike).map(Some);
             }
             same += n as u64;
         }
@@ -148,8 +151,12 @@ impl<'s> Compared<'s> {
         Some(format!("{} ends before {}, which {} holds", name_of(ends.path), place, name_of(holds.path)))
     }
 
-    /// An element that differs, as the proved reads read it.
-    fn element(&mut self, pair: &Pair<'_>, record: u64, element: u64) -> Result<String, Failure> {
+    /// A byte of a record that differs: the element that it is part of, as the proved reads read it, or where it lies behind them.
+    fn difference(&mut self, pair: &Pair<'_>, record: u64, byte: u64) -> Result<String, Failure> {
+        let element = byte / pair.a.data_type().size();
+        if element >= pair.a.record_len() {
+            return Ok(format!("variable {:?}, the bytes behind record {}", pair.a.name(), record));
+        }
         let a = told(&mut self.held_a, &pair.a, record, element).map_err(self.a.failed())?;
         let b = told(&mut self.held_b, &pair.b, record, element).map_err(self.b.failed())?;
         Ok(format!("variable {:?}, record {}, element {}: {}, {}", pair.a.name(), record, element, a, b))
@@ -161,16 +168,6 @@ fn told(held: &mut Held<'_>, variable: &Variable<'_>, record: u64, element: u64)
     let size = variable.data_type().size();
     let start = variable.record_bytes(record).expect("a record below the count").start + element * size;
     held.fetch(start, size)?;
-    let value = held.element(variable, record, element).ok();
-    Ok(format!("{} at bytes {}", shown(value), inclusive(start..start + size)))
-}
-
-/// A value, with its bits where two values that look alike may have others.
-fn shown(value: Option<Value>) -> String {
-    match value {
-        Some(Value::Float(float)) if float.is_nan() => format!("NaN (bits {:08x})", float.to_bits()),
-        Some(Value::Double(double)) if double.is_nan() => format!("NaN (bits {:016x})", double.to_bits()),
-        Some(value) => Shown(value).to_string(),
-        None => "nothing".to_string(),
-    }
+    let value = held.element(variable, record, element).map_or("nothing".to_string(), exact);
+    Ok(format!("{} at bytes {}", value, inclusive(start..start + size)))
 }

@@ -1,9 +1,9 @@
 //! What is wrong with a header: the rule that is not met, and the bytes that offend.
 
-use crate::brief::number;
+use crate::brief::{big_endian, counted};
 use crate::explain::judge;
 use crate::explain::said::Said;
-use crate::explain::walk::{counted, Derivation, Unmet};
+use crate::explain::walk::{Derivation, Unmet};
 use fungalcove::{Opening, Refusal, Versions};
 use std::ops::Range;
 
@@ -24,7 +24,10 @@ impl Fault {
 /// What a refusal is about. `None` where it is about no bytes of the header.
 pub fn find(opening: &Opening, refusal: Refusal, derivation: &Derivation, versions: Versions) -> Option<Fault> {
     match (refusal.number, &derivation.unmet) {
-        (1..=10, Some(unmet)) => Some(in_grammar(&opening.prefix, refusal.number, unmet, versions)),
+        (2, Some(unmet)) => Some(unfinished(&opening.prefix, opening.size as usize, unmet)),
+        (3..=10, Some(unmet)) => {
+            Some(in_grammar(&opening.prefix, refusal.number, unmet, versions, attributes(&derivation.said)))
+        }
         (number, None) => in_rules(&opening.prefix, number, &derivation.said, opening.size),
         _ => None,
     }
@@ -40,10 +43,14 @@ fn in_rules(file: &[u8], number: u8, said: &Said, size: u64) -> Option<Fault> {
     }
 }
 
-fn in_grammar(file: &[u8], number: u8, unmet: &Unmet, versions: Versions) -> Fault {
+/// How many attributes there are before the place where the walk ended.
+fn attributes(said: &Said) -> usize {
+    said.attributes.iter().map(Vec::len).sum()
+}
+
+fn in_grammar(file: &[u8], number: u8, unmet: &Unmet, versions: Versions, attributes: usize) -> Fault {
     let there = unmet.bytes.start..unmet.bytes.end.min(file.len());
     match number {
-        1 | 2 => unfinished(file, unmet),
         3 => magic(file),
         4 => version(file, versions),
         5 => word(file, unmet),
@@ -51,14 +58,17 @@ fn in_grammar(file: &[u8], number: u8, unmet: &Unmet, versions: Versions) -> Fau
         7 => padding(file, there),
         8 => nc_type(file, there),
         9 => list_start(file, unmet),
-        _ => capacity(file, unmet),
+        _ => capacity(file, unmet, attributes),
     }
 }
 
-fn unfinished(file: &[u8], unmet: &Unmet) -> Fault {
-    let missing = unmet.bytes.end.saturating_sub(file.len());
-    let why = format!("the file ends here; at least {} would have to follow", counted(missing, "byte"));
-    Fault::new(unmet.rule, unmet.bytes.start..file.len(), file.len()..file.len() + 1, why)
+/// The last bytes of the file are shown where they were read.
+fn unfinished(file: &[u8], size: usize, unmet: &Unmet) -> Fault {
+    let missing = counted(unmet.bytes.end.saturating_sub(size) as u64, "byte");
+    let why = format!("the file ends at byte {}; at least {} would have to follow", size, missing);
+    let read = file.len() == size;
+    let (bytes, marked) = if read { (unmet.bytes.start..size, size..size + 1) } else { (0..0, 0..0) };
+    Fault::new(unmet.rule, bytes, marked, why)
 }
 
 fn magic(file: &[u8]) -> Fault {
@@ -82,7 +92,7 @@ fn word(file: &[u8], unmet: &Unmet) -> Fault {
         "numrecs" | "vsize" => "NON_NEG, or \\xFF \\xFF \\xFF \\xFF",
         _ => "NON_NEG = <non-negative INT>",
     };
-    let why = format!("{} is above 2147483647", number(&file[unmet.bytes.clone()]));
+    let why = format!("{} is above 2147483647", big_endian(&file[unmet.bytes.clone()]));
     Fault::new(format!("{}: {}", unmet.rule, rule), unmet.bytes.clone(), unmet.bytes.clone(), why)
 }
 
@@ -103,7 +113,7 @@ fn padding(file: &[u8], zeros: Range<usize>) -> Fault {
 }
 
 fn nc_type(file: &[u8], word: Range<usize>) -> Fault {
-    let why = format!("{} is the code of no type", number(&file[word.clone()]));
+    let why = format!("{} is the code of no type", big_endian(&file[word.clone()]));
     Fault::new("nc_type = NC_BYTE | .. | NC_DOUBLE, 1 to 6", word.clone(), word, why)
 }
 
@@ -123,14 +133,14 @@ fn list_start(file: &[u8], unmet: &Unmet) -> Fault {
     Fault::new(rule, unmet.bytes.start..unmet.bytes.start + start.len(), at..at + 1, why)
 }
 
-fn capacity(file: &[u8], unmet: &Unmet) -> Fault {
-    let most = match unmet.part_of {
-        "name" => "a name has at most 256 bytes",
-        "dim_list" => "a file has at most 32 dimensions",
-        "var_list" => "a file has at most 64 variables",
-        "var" => "a variable has at most 8 dimensions",
-        _ => "a file has at most 128 attributes, over all lists",
+fn capacity(file: &[u8], unmet: &Unmet, attributes: usize) -> Fault {
+    let count = big_endian(&file[unmet.bytes.clone()]);
+    let why = match unmet.part_of {
+        "name" => format!("{}: a name has at most 256 bytes", count),
+        "dim_list" => format!("{}: a file has at most 32 dimensions", count),
+        "var_list" => format!("{}: a file has at most 64 variables", count),
+        "var" => format!("{}: a variable has at most 8 dimensions", count),
+        _ => format!("{} after {}: a file has at most 128 attributes, over all lists", count, attributes),
     };
-    let why = format!("{}: {}", number(&file[unmet.bytes.clone()]), most);
     Fault::new("nelems, within the capacities", unmet.bytes.clone(), unmet.bytes.clone(), why)
 }

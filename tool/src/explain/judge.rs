@@ -2,9 +2,10 @@
 //!
 //! That one is broken the proved reader has said; here the first item that breaks it is found, in the order of the file.
 
-use crate::brief::{self, number, TYPES};
+use crate::brief::{self, big_endian, counted, padding, TYPES};
 use crate::explain::fault::Fault;
 use crate::explain::said::{Named, Said, Variable};
+use crate::explain::walk::OPEN;
 use std::ops::Range;
 
 /// 2^60 and 2^62, the limits of 12 and 15.
@@ -111,7 +112,10 @@ pub fn count(said: &Said, size: u64) -> Option<Fault> {
     let rule = "numrecs left open: (size - smallest record begin) / record size";
     let why = match u128::from(size).checked_sub(begin) {
         None => format!("the size, {}, lies below the first record's begin, {}", size, begin),
-        Some(bytes) => format!("({} - {}) / {} leaves a rest of {} bytes", size, begin, step, bytes % step),
+        Some(bytes) => {
+            let rest = counted((bytes % step) as u64, "byte");
+            format!("({} - {}) / {} leaves a rest of {}", size, begin, step, rest)
+        }
     };
     Some(at(rule, COUNT, why))
 }
@@ -119,9 +123,9 @@ pub fn count(said: &Said, size: u64) -> Option<Fault> {
 /// 15: the first variable that ends above 2^62.
 pub fn ends(file: &[u8], said: &Said, size: u64) -> Option<Fault> {
     let step = record_size(said);
-    let word = u128::from(number(&file[COUNT]));
+    let word = big_endian(&file[COUNT]);
     let opened = || first_begin(said).map_or(0, |begin| (u128::from(size) - begin) / step);
-    let records = if word == 0xFFFF_FFFF { opened() } else { word };
+    let records = if word == u64::from(OPEN) { opened() } else { u128::from(word) };
     let end = |variable: &&Variable| match (is_record(said, variable), records) {
         (true, 0) => variable.begin as u128,
         (true, _) => {
@@ -145,7 +149,7 @@ pub fn ends(file: &[u8], said: &Said, size: u64) -> Option<Fault> {
 /// The bytes of a variable's ids; they stand behind its name, the name's padding, and their number.
 fn id_bytes(variable: &Variable) -> Range<usize> {
     let name = &variable.named.name;
-    let first = name.end + (4 - name.len() % 4) % 4 + 4;
+    let first = name.end + padding(name.len() as u128) as usize + 4;
     first..first + 4 * variable.ids.len()
 }
 
@@ -161,7 +165,7 @@ fn is_record(said: &Said, variable: &Variable) -> bool {
 fn padded(said: &Said, variable: &Variable) -> u128 {
     let lengths = variable.ids.iter().map(|id| u128::from(said.dimensions[*id as usize].length)).filter(|n| *n > 0);
     let bytes = lengths.fold(TYPES[variable.code as usize].size as u128, |bytes, length| bytes.saturating_mul(length));
-    bytes.saturating_add((4 - bytes % 4) % 4)
+    bytes.saturating_add(padding(bytes))
 }
 
 fn record_size(said: &Said) -> u128 {

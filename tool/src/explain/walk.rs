@@ -3,7 +3,7 @@
 //! The walk judges nothing. Up to where it goes the proved reader has accepted every byte, so that it only has to follow; where the
 //! reader refused, the next rule is the one that is not met.
 
-use crate::brief::{self, number};
+use crate::brief::{self, big_endian, counted, padding};
 use crate::explain::said::{Dimension, Named, Said, Variable};
 use fungalcove::Version;
 use std::ops::Range;
@@ -36,9 +36,10 @@ pub struct Derivation {
 /// How many bytes a word of the header has.
 const WORD: usize = 4;
 /// The count word of a file that leaves it open, and a vsize that has no number.
-const OPEN: u32 = 0xFFFF_FFFF;
+pub const OPEN: u32 = 0xFFFF_FFFF;
 
-/// Walks the first bytes of a file up to `stop`. `records` are those that were counted, where the file is accepted.
+/// Walks the first bytes of a file up to `stop`, where it ends inside a rule whose bytes need not all be there. `records` are those
+/// that were counted, where the file is accepted.
 pub fn walk(bytes: &[u8], stop: usize, records: Option<u64>) -> Derivation {
     let mut walk = Walk { bytes, stop, at: 0, within: Vec::new(), lines: Vec::new(), said: Said::default() };
     let unmet = walk.header(records).err();
@@ -100,8 +101,8 @@ impl<'a> Walk<'a> {
     }
 
     fn word(&mut self, rule: &'static str, says: impl FnOnce(u32) -> String) -> Step<u32> {
-        let at = self.leaf(rule, WORD, |bytes| says(number(bytes) as u32))?;
-        Ok(number(&self.bytes[at]) as u32)
+        let at = self.leaf(rule, WORD, |bytes| says(big_endian(bytes) as u32))?;
+        Ok(big_endian(&self.bytes[at]) as u32)
     }
 
     fn header(&mut self, records: Option<u64>) -> Step<()> {
@@ -130,7 +131,7 @@ impl<'a> Walk<'a> {
     /// A list that is absent, or its tag, its number of items, and the items.
     fn list(&mut self, rule: &'static str, tag: &'static str, item: fn(&mut Self) -> Step<()>) -> Step<()> {
         self.node(rule, |walk| {
-            let start = &walk.bytes[walk.at..walk.stop];
+            let start = &walk.bytes[walk.at..walk.stop.min(walk.bytes.len())];
             if start.len() < WORD {
                 return walk.leaf("ABSENT or tag", WORD, |_| String::new()).map(|_| ());
             }
@@ -167,8 +168,8 @@ impl<'a> Walk<'a> {
     }
 
     fn padding(&mut self, after: usize) -> Step<()> {
-        let zeros = (WORD - after % WORD) % WORD;
-        self.leaf("padding", zeros, |zeros| counted(zeros.len(), "zero byte")).map(|_| ())
+        let zeros = padding(after as u128) as usize;
+        self.leaf("padding", zeros, |zeros| counted(zeros.len() as u64, "zero byte")).map(|_| ())
     }
 
     fn dim(&mut self) -> Step<()> {
@@ -200,7 +201,7 @@ impl<'a> Walk<'a> {
         let kind = &brief::TYPES[(code as usize).min(brief::TYPES.len() - 1)];
         let n = elements.saturating_mul(kind.size);
         self.node(kind.list, |walk| {
-            walk.leaf(kind.items, n, |bytes| brief::shown(code, bytes))?;
+            walk.leaf(kind.items, n, |bytes| brief::values(code, bytes))?;
             walk.padding(n)
         })
     }
@@ -231,11 +232,6 @@ impl<'a> Walk<'a> {
     }
 }
 
-/// As in `1 zero byte`, `2 zero bytes`.
-pub fn counted(n: usize, what: &str) -> String {
-    format!("{} {}{}", n, what, if n == 1 { "" } else { "s" })
-}
-
 fn version(byte: u8) -> String {
     match byte {
         1 => format!("1: {}", Version::Classic),
@@ -247,5 +243,5 @@ fn version(byte: u8) -> String {
 /// A number of 4 or 8 bytes in two's complement.
 fn signed(bytes: &[u8]) -> i64 {
     let unused = 64 - 8 * bytes.len() as u32;
-    (number(bytes) << unused) as i64 >> unused
+    (big_endian(bytes) << unused) as i64 >> unused
 }
