@@ -3,7 +3,7 @@
 
     answers.py [--cases N] [--sweep N] COMMAND..
 
-Each COMMAND, one argument, runs the crate's program `answers`. Of N files of the corpus, of hand-made headers at pretended sizes, of the recorded
+Each COMMAND, one argument, runs the crate's program `answers`. Of N files of the corpus, of those that are accepted with a tag in each empty list, of hand-made headers at pretended sizes, of the recorded
 files of crates/replay and of those that ncgen makes of tests/cdl/ in both versions every answer is compared: numbers and places, all fields and values of accepted files, the header written anew, widening and
 narrowing. Of N headers of a sweep, whose sizes, begins and record sizes lie around 2^31, 2^32, 2^53, 2^60 and 2^62, number, place and all fields.
 """
@@ -22,8 +22,9 @@ import tempfile
 import encode
 from cases import sized
 from corpus import files
+from differential import empty_lists, put
 from dump import dump
-from model import OPEN, Refused, convert, header_bytes, is_record, parse, record_size
+from model import OPEN, Refused, convert, header_bytes, is_record, parse, read_header, record_size
 
 HERE = os.path.dirname(os.path.abspath(__file__))
 CASES, SWEEP, SHOWN = 8000, 100000, 5
@@ -49,6 +50,11 @@ def expected(file, size, conversions):
     if conversions:
         fields += [converted("widen", file, size, 2), converted("narrow", file, size, 1)]
     return number, " ".join(fields)
+
+
+def tagged(pairs):
+    """Accepted files with a tag in each empty list, which writing clears."""
+    return [(put(file, empty_lists(file, size)), size) for file, size in pairs if read_header(file, size)[0] == 0]
 
 
 def recorded():
@@ -147,6 +153,7 @@ def main(arguments):
         sys.exit(__doc__)
     made = [(file, len(file)) for file in itertools.islice(files(), numbers["--cases"])]
     wrong = compare_all("files", arguments, made + list(sized()), True)
+    wrong += compare_all("files with tags in their empty lists", arguments, tagged(made), True)
     wrong += compare_all("recorded files and headers", arguments, list(recorded()), True)
     wrong += compare_all("files of ncgen", arguments, list(real()), True)
     wrong += compare_all("headers of the sweep", arguments, list(swept(numbers["--sweep"])), False)
