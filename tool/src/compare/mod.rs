@@ -63,10 +63,17 @@ impl<'p> Side<'p> {
 struct Pair<'s> {
     a: Variable<'s>,
     b: Variable<'s>,
-    /// How many bytes behind each record are compared too: netCDF's library has values there.
-    behind: u64,
     /// Whether both files have ended before a record; what follows of it then lies behind their ends too.
     ended: bool,
+}
+
+/// What comes of two ranges of bytes.
+enum Looked {
+    Same,
+    /// The first byte that differs, counted from the ranges' starts.
+    Apart(u64),
+    /// Which of the files, A and B, end inside; up to there they are the same.
+    Ended(bool, bool),
 }
 
 /// Two files whose headers say the same, while their values are compared.
@@ -87,7 +94,7 @@ impl<'s> Compared<'s> {
     /// The first difference: of the fixed variables, then record by record, as they mostly lie in files.
     fn values(&mut self) -> Result<Option<String>, Failure> {
         let variables = self.a.header.variables().zip(self.b.header.variables());
-        let pairs = variables.map(|(a, b)| Pair { a, b, behind: lonely::padding(&self.a.header, &a), ended: false });
+        let pairs = variables.map(|(a, b)| Pair { a, b, ended: false });
         let (mut fixed, mut records): (Vec<_>, Vec<_>) = pairs.partition(|pair| !pair.a.is_record());
         let mut difference = self.record(&mut fixed, 0)?;
         for record in 0..self.a.header.record_count() {
@@ -95,6 +102,9 @@ impl<'s> Compared<'s> {
                 break;
             }
             difference = self.record(&mut records, record)?;
+        }
+        if difference.is_none() {
+            difference = self.unpadded(&records)?;
         }
         if difference.is_none() && !self.missing.is_empty() {
             warn(format_args!(
@@ -108,35 +118,54 @@ impl<'s> Compared<'s> {
     /// The first difference within a record of some variables.
     fn record(&mut self, pairs: &mut [Pair<'_>], record: u64) -> Result<Option<String>, Failure> {
         for pair in pairs.iter_mut().filter(|pair| !pair.ended) {
-            if let Some(difference) = self.chunk(pair, record)? {
-                return Ok(Some(difference));
+            let bytes = |variable: &Variable<'_>| variable.record_bytes(record).expect("a record below the count");
+            let (at_a, at_b) = (bytes(&pair.a), bytes(&pair.b));
+            let difference = match self.look(at_a.start, at_b.start, at_a.end - at_a.start)? {
+                Looked::Same => None,
+                Looked::Apart(byte) => Some(self.element(pair, record, byte / pair.a.data_type().size())?),
+                Looked::Ended(a, b) => self.end(pair, record, a, b),
+            };
+            if difference.is_some() {
+                return Ok(difference);
             }
         }
         Ok(None)
     }
 
-    /// The first difference within a record of a variable.
-    fn chunk(&mut self, pair: &mut Pair<'_>, record: u64) -> Result<Option<String>, Failure> {
-        let bytes = |variable: &Variable<'_>| variable.record_bytes(record).expect("a record below the count");
-        let (at_a, at_b) = (bytes(&pair.a), bytes(&pair.b));
-        let length = at_a.end - at_a.start + pair.behind;
+    /// The first difference where netCDF's library has the values of a lonely record variable.
+    fn unpadded(&mut self, records: &[Pair<'_>]) -> Result<Option<String>, Failure> {
+        for pair in records.iter().filter(|pair| lonely::padding(&self.a.header, &pair.a) > 0) {
+            let length = pair.a.len() * pair.a.data_type().size();
+            let difference = match self.look(pair.a.begin(), pair.b.begin(), length)? {
+                Looked::Same | Looked::Ended(true, true) => continue,
+                Looked::Apart(byte) => format!("byte {} of it", byte),
+                Looked::Ended(a, _) => {
+                    format!("{} ends before the other", name_of(if a { self.a } else { self.b }.path))
+                }
+            };
+            return Ok(Some(format!("variable {:?}, read without padding: {}", pair.a.name(), difference)));
+        }
+        Ok(None)
+    }
+
+    /// Looks at as many bytes from a place of each file on.
+    fn look(&mut self, at_a: u64, at_b: u64, length: u64) -> Result<Looked, Failure> {
         let mut same = 0;
         while same < length {
-            let part_a = self.held_a.from(at_a.start + same, PIECE).map_err(self.a.failed())?;
-            let part_b = self.held_b.from(at_b.start + same, PIECE).map_err(self.b.failed())?;
+            let part_a = self.held_a.from(at_a + same, PIECE).map_err(self.a.failed())?;
+            let part_b = self.held_b.from(at_b + same, PIECE).map_err(self.b.failed())?;
             let left = (length - same).min(PIECE) as usize;
             let n = part_a.len().min(part_b.len()).min(left);
             if n == 0 {
-                let (a_ends, b_ends) = (part_a.is_empty(), part_b.is_empty());
-                return Ok(self.end(pair, record, a_ends, b_ends));
+                return Ok(Looked::Ended(part_a.is_empty(), part_b.is_empty()));
             }
             if part_a[..n] != part_b[..n] {
                 let alike = part_a.iter().zip(part_b).take_while(|(a, b)| a == b).count() as u64;
-                return self.difference(pair, record, same + alike).map(Some);
+                return Ok(Looked::Apart(same + alike));
             }
             same += n as u64;
         }
-        Ok(None)
+        Ok(Looked::Same)
     }
 
     /// A record that a file ends before.
@@ -151,12 +180,8 @@ impl<'s> Compared<'s> {
         Some(format!("{} ends before {}, which {} holds", name_of(ends.path), place, name_of(holds.path)))
     }
 
-    /// A byte of a record that differs: the element that it is part of, as the proved reads read it, or where it lies behind them.
-    fn difference(&mut self, pair: &Pair<'_>, record: u64, byte: u64) -> Result<String, Failure> {
-        let element = byte / pair.a.data_type().size();
-        if element >= pair.a.record_len() {
-            return Ok(format!("variable {:?}, the bytes behind record {}", pair.a.name(), record));
-        }
+    /// An element that differs, as the proved reads read it.
+    fn element(&mut self, pair: &Pair<'_>, record: u64, element: u64) -> Result<String, Failure> {
         let a = told(&mut self.held_a, &pair.a, record, element).map_err(self.a.failed())?;
         let b = told(&mut self.held_b, &pair.b, record, element).map_err(self.b.failed())?;
         Ok(format!("variable {:?}, record {}, element {}: {}, {}", pair.a.name(), record, element, a, b))
