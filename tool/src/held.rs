@@ -41,7 +41,7 @@ impl<'f> Held<'f> {
     pub fn from(&mut self, at: u64, most: u64) -> io::Result<&[u8]> {
         let end = self.start + self.piece.len() as u64;
         if !(self.start..end).contains(&at) {
-            let follows = at.wrapping_sub(end) < LITTLE;
+            let follows = (end..end + LITTLE).contains(&at);
             let more = if follows { LITTLE.max(2 * self.piece.len() as u64) } else { LITTLE };
             self.fetch(at, more.min(most))?;
         }

@@ -134,18 +134,18 @@ impl<'s> Compared<'s> {
 
     /// The first difference where netCDF's library has the values of a lonely record variable.
     fn unpadded(&mut self, records: &[Pair<'_>]) -> Result<Option<String>, Failure> {
-        for pair in records.iter().filter(|pair| lonely::padding(&self.a.header, &pair.a) > 0) {
-            let length = pair.a.len() * pair.a.data_type().size();
-            let difference = match self.look(pair.a.begin(), pair.b.begin(), length)? {
-                Looked::Same | Looked::Ended(true, true) => continue,
-                Looked::Apart(byte) => format!("byte {} of it", byte),
-                Looked::Ended(a, _) => {
-                    format!("{} ends before the other", name_of(if a { self.a } else { self.b }.path))
-                }
-            };
-            return Ok(Some(format!("variable {:?}, read without padding: {}", pair.a.name(), difference)));
-        }
-        Ok(None)
+        let pair = match records {
+            [pair] if lonely::padding(&self.a.header, &pair.a) > 0 => pair,
+            _ => return Ok(None),
+        };
+        let length = pair.a.len() * pair.a.data_type().size();
+        let difference = match self.look(pair.a.begin(), pair.b.begin(), length)? {
+            Looked::Same | Looked::Ended(true, true) => return Ok(None),
+            Looked::Apart(byte) => format!("byte {} of it", byte),
+            Looked::Ended(true, false) => format!("{} ends before the other", name_of(self.a.path)),
+            Looked::Ended(..) => format!("{} ends before the other", name_of(self.b.path)),
+        };
+        Ok(Some(format!("variable {:?}, read without padding: {}", pair.a.name(), difference)))
     }
 
     /// Looks at as many bytes from a place of each file on.
