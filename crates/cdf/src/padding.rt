@@ -11,8 +11,7 @@ use crate::step::unfinished;
 pub fn compute_padding_size(count: u64) -> u64
     ensures { λ r. ⌜ r ≡ padding count ⌝ }
 {
-    let rest = count % 4;
-    if rest == 0 { 0 } else { 4 - rest }
+    (4 - count % 4) % 4
 }
 
 // Whether the `n` bytes from `at` are zero.
