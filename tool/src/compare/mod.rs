@@ -142,8 +142,7 @@ impl<'s> Compared<'s> {
         let difference = match self.look(pair.a.begin(), pair.b.begin(), length)? {
             Looked::Same | Looked::Ended(true, true) => return Ok(None),
             Looked::Apart(byte) => format!("byte {} of it", byte),
-            Looked::Ended(true, false) => format!("{} ends before the other", name_of(self.a.path)),
-            Looked::Ended(..) => format!("{} ends before the other", name_of(self.b.path)),
+            Looked::Ended(a, _) => format!("{} ends before the other", name_of(if a { self.a } else { self.b }.path)),
         };
         Ok(Some(format!("variable {:?}, read without padding: {}", pair.a.name(), difference)))
     }
