@@ -22,7 +22,7 @@ pub trait Kind: fungalcove::Element {
 }
 
 const FAST: Most = Most::of(Most::Ratio(1.05), Most::Ratio(1.1));
-const SHORT: Most = Most::of(Most::Ratio(1.3), Most::Open);
+const SHORT: Most = Most::of(Most::Ratio(1.25), Most::Ratio(1.5));
 const BYTE: Most = Most::of(Most::Ratio(1.1), Most::Open);
 
 macro_rules! kinds {

@@ -1,6 +1,7 @@
 //! bench [RUNS]: the times of the crate `fungalcove`, beside plain Rust loops and, on the host, netcdf3. Each time is the median of
 //! RUNS runs, 301 if not said. What both sides give is compared in the same run.
 
+mod by_value;
 mod clock;
 mod element;
 mod header;

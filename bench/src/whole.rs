@@ -1,5 +1,6 @@
 //! All values of a variable, into an output that is lent, beside the plain loop over its bytes. The variable is found before.
 
+use crate::by_value;
 use crate::clock::{opaque, Clock};
 use crate::header::read;
 use crate::kind::Kind;
@@ -13,7 +14,9 @@ pub fn measure(runs: usize) {
     let clock = Clock { runs, turns: 1 };
     head("1,000,000 values", "loop us", "ours us");
     beside_loop::<f32>(clock);
+    by_value::beside_loop::<f32>(clock);
     beside_loop::<f64>(clock);
+    by_value::beside_loop::<f64>(clock);
     beside_loop::<i32>(clock);
     beside_loop::<i16>(clock);
     beside_loop::<i8>(clock);

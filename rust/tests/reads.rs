@@ -83,6 +83,33 @@ fn bits_of_floating_point_numbers_stay() {
     }
 }
 
+/// The compiled loops go by vectors, then by fewer values, then one by one: lengths that end in each, out of bytes at an even and at an odd address.
+#[test]
+fn every_length() {
+    macro_rules! each_length {
+        ($type:ty, $code:literal, $read:ident) => {
+            for (length, shift) in (1..=67).flat_map(|length| [(length, 0), (length, 1)]) {
+                let header = Builder::new(1, 0).dimension("d", length).variable("v", &[0], $code, 80).header();
+                let (values, size) = (length as usize, std::mem::size_of::<$type>());
+                let bytes: Vec<u8> = (0..shift + values * size).map(|k| (k * 41 + k / 7) as u8).collect();
+                let window = Window { bytes: &bytes[shift..], start: 80 };
+                let mut out = vec![<$type>::default(); values + 1];
+                let header = Header::read(&header, 1 << 20, Versions::BOTH).unwrap();
+                assert_eq!(header.variable("v").unwrap().$read(window, &mut out), Ok(values));
+                let back: Vec<u8> = out[..values].iter().flat_map(|value| value.to_be_bytes()).collect();
+                assert_eq!(back, window.bytes, "{} values", values);
+                assert_eq!(out[values], <$type>::default());
+            }
+        };
+    }
+    each_length!(i8, 1, read_i8_into);
+    each_length!(u8, 2, read_u8_into);
+    each_length!(i16, 3, read_i16_into);
+    each_length!(i32, 4, read_i32_into);
+    each_length!(f32, 5, read_f32_into);
+    each_length!(f64, 6, read_f64_into);
+}
+
 #[test]
 fn refusals_in_their_order() {
     let (header, window) = (read(&example::X), Window::whole(&example::X));

@@ -18,8 +18,8 @@ fn wide64(x: u32) -> u64
     x as u64
 }
 
-// The four bytes from `at` in the other order, for a reader that turns them round by itself.
-pub fn le32(s: &[u8], at: usize) -> u32
+// The four bytes from `at` in the other order.
+fn le32(s: &[u8], at: usize) -> u32
     requires { ⌜ at + 4 ≤ length (now s) ⌝ }
     ensures { λ r. ⌜ r ≡ little (now (s .entry)) at ⌝ }
 {
@@ -40,11 +40,14 @@ pub fn be32(s: &[u8], at: usize) -> u32
     swap32(le32(s, at))
 }
 
-fn le64(s: &[u8], at: usize) -> u64
+// The eight bytes from `at` in the other order, also for a reader that turns them round by itself. They are taken from a part
+// that starts there: LLVM makes one load of them, and two where they are taken from the whole.
+pub fn le64(s: &[u8], at: usize) -> u64
     requires { ⌜ at + 8 ≤ length (now s) ⌝ }
     ensures { λ r. ⌜ r ≡ little (now (s .entry)) at + little (now (s .entry)) (at + 4) * 4294967296 ⌝ }
 {
-    wide64(le32(s, at)) + wide64(le32(s, at + 4)) * 0x1_0000_0000
+    let part = &s[at..];
+    wide64(le32(part, 0)) + wide64(le32(part, 4)) * 0x1_0000_0000
 }
 
 fn swap64(x: u64) -> u64

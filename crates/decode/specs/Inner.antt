@@ -1,3 +1,3 @@
 -- Words of inner contracts alone: no entry's contract and no demand reaches them.
 pub mod Chunks
-pub mod Halves
+pub mod Pairs

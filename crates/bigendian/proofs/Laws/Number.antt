@@ -52,14 +52,24 @@ be-split j (suc k) s p =
     ∙ add-assoc _ _ _
     ∙ ap (λ (n : ℕ). be j s p * 256 ^ suc k + (be k s (p + j) * 256 + getD s n 0)) (sym (add-assoc p j k))
 
--- a number read from a part of s
+-- a byte and numbers read from a part of s
+byte-part : (s : List ℕ) (c n p k : ℕ) → p + k < n → getD (take n (drop c s)) (p + k) 0 ≡ getD s (c + p + k) 0
+byte-part s c n p k h = getD-take n (drop c s) (p + k) 0 h ∙ getD-drop c s (p + k) 0 ∙ ap (λ (i : ℕ). getD s i 0) (sym (add-assoc c p k))
+
 pub be-part : (k : ℕ) (s : List ℕ) (c n p : ℕ) → p + k ≤ n → be k (take n (drop c s)) p ≡ be k s (c + p)
 unfolding be
 be-part zero s c n p h = refl
 be-part (suc k) s c n p h =
     let e = be-part k s c n p (omega arith) in
-    let f : getD (take n (drop c s)) (p + k) 0 ≡ getD s (c + p + k) 0 =
-    getD-take n (drop c s) (p + k) 0 (omega arith) ∙ getD-drop c s (p + k) 0 ∙ ap (λ (i : ℕ). getD s i 0) (sym (add-assoc c p k)) in
+    let f = byte-part s c n p k (omega arith) in
+    cc
+
+pub little-part : (s : List ℕ) (c n p : ℕ) → p + 4 ≤ n → little (take n (drop c s)) p ≡ little s (c + p)
+little-part s c n p h =
+    let a : getD (take n (drop c s)) p 0 ≡ getD s (c + p) 0 = getD-take n (drop c s) p 0 (omega arith) ∙ getD-drop c s p 0 in
+    let b = byte-part s c n p 1 (omega arith) in
+    let d = byte-part s c n p 2 (omega arith) in
+    let e = byte-part s c n p 3 (omega arith) in
     cc
 
 half-low : (l h x : ℕ) → l < 4294967296 → x ≡ l + h * 4294967296 → x % 4294967296 ≡ l

@@ -1,4 +1,4 @@
-use Rattle.decode.proofs.Laws.Halves.{be-2}
+use Rattle.decode.proofs.Laws.Pairs.{be-2}
 use denote.Ref.{now}
 use borrow.Author.Needs.{needs}
 use Rattle.decode.proofs.short.be16.Statement.{statement}
