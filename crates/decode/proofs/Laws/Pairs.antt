@@ -1,5 +1,5 @@
 -- Laws of numbers of two bytes: read one by one, and as the four pairs of eight bytes that were read in the other order.
-use mathlib.Core.Path.{_≡_, refl, sym, ap, _∙_}
+use mathlib.Core.Path.{_≡_, refl, ap, _∙_}
 use mathlib.Core.List.{List}
 use Prim.Native.Nat.{ℕ, _+_, _*_, _/_, _%_, _<_}
 use native.Mathlib.Nat.{add-zero, zero-add, add-assoc}
@@ -23,8 +23,11 @@ digit m b r q l x h k e = ap (λ (n : ℕ). n / m % b) e ∙ ap (λ (n : ℕ). n
 lowest : (b r q x : ℕ) → q < b → x ≡ r * b + q → x % b ≡ q
 lowest b r q x h e = ap (λ (n : ℕ). n % b) e ∙ digits-mod r h
 
-evens-are : (a b c d e f g h x : ℕ) → a < 256 → b < 256 → c < 256 → d < 256 → e < 256 → f < 256 → g < 256 → h < 256
-    → x ≡ a + b * 256 + c * 65536 + d * 16777216 + (e + f * 256 + g * 65536 + h * 16777216) * 4294967296
+-- eight bytes, the least significant first
+abbrev eight : ℕ → ℕ → ℕ → ℕ → ℕ → ℕ → ℕ → ℕ → ℕ
+eight a b c d e f g h = a + b * 256 + c * 65536 + d * 16777216 + (e + f * 256 + g * 65536 + h * 16777216) * 4294967296
+
+evens-are : (a b c d e f g h x : ℕ) → a < 256 → b < 256 → c < 256 → d < 256 → e < 256 → f < 256 → g < 256 → h < 256 → x ≡ eight a b c d e f g h
     → evens x ≡ a + c * 65536 + e * 4294967296 + g * 281474976710656
 evens-are a b c d e f g h x ha hb hc hd he hf hg hh q =
     let p = lowest 256 (b + c * 256 + d * 65536 + (e + f * 256 + g * 65536 + h * 16777216) * 16777216) a x ha (omega arith) in
@@ -33,8 +36,7 @@ evens-are a b c d e f g h x ha hb hc hd he hf hg hh q =
     let u = digit 281474976710656 256 h g (a + b * 256 + c * 65536 + d * 16777216 + (e + f * 256) * 4294967296) x (omega arith) hg (omega arith) in
     cc
 
-swapped-are : (a b c d e f g h x : ℕ) → a < 256 → b < 256 → c < 256 → d < 256 → e < 256 → f < 256 → g < 256 → h < 256
-    → x ≡ a + b * 256 + c * 65536 + d * 16777216 + (e + f * 256 + g * 65536 + h * 16777216) * 4294967296
+swapped-are : (a b c d e f g h x : ℕ) → a < 256 → b < 256 → c < 256 → d < 256 → e < 256 → f < 256 → g < 256 → h < 256 → x ≡ eight a b c d e f g h
     → swapped x ≡ a * 256 + b + (c * 256 + d) * 65536 + (e * 256 + f) * 4294967296 + (g * 256 + h) * 281474976710656
 swapped-are a b c d e f g h x ha hb hc hd he hf hg hh q =
     let even = evens-are a b c d e f g h x ha hb hc hd he hf hg hh q in
