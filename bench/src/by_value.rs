@@ -4,13 +4,13 @@
 use crate::clock::{opaque, Clock};
 use crate::header::read;
 use crate::kind::Kind;
-use crate::table::{line, Most};
-use crate::whole::{file, VALUES};
+use crate::table::Most;
+use crate::whole::{beside_loop, file, VALUES};
 
 /// A type that has such a read.
 pub trait ByValue: Kind {
-    const LINE: &'static str;
-    const MOST: Most;
+    /// What it is called in the table, and the most that it may take beside the loop.
+    const LINE: (&'static str, Most);
 
     /// All `VALUES` values that stand in `file` from `begin` on: 0, or the number of a refusal.
     fn read(file: &[u8], begin: u64, out: &mut [Self]) -> u8;
@@ -21,8 +21,7 @@ pub trait ByValue: Kind {
 macro_rules! by_value {
     ($type:ty, $line:literal, $most:expr, $function:ident) => {
         impl ByValue for $type {
-            const LINE: &'static str = $line;
-            const MOST: Most = $most;
+            const LINE: (&'static str, Most) = ($line, $most);
 
             fn read(file: &[u8], begin: u64, out: &mut [Self]) -> u8 {
                 extern "C" {
@@ -53,15 +52,10 @@ macro_rules! by_value {
 by_value!(f32, "float by value", Most::Ratio(1.5), fungal_values_f32);
 by_value!(f64, "double by value", Most::Open, fungal_values_f64);
 
-pub fn beside_loop<T: ByValue>(clock: Clock) {
+pub fn measure<T: ByValue>(clock: Clock) {
     let file = file::<T>();
     let begin = read(&file).variable("x").expect("there is one").begin();
-    let (mut theirs, mut out) = (vec![T::default(); VALUES], vec![T::default(); VALUES]);
-    let (a, b) = clock.against(
-        || T::plain(&opaque(&file[..])[begin as usize..], &mut theirs),
-        || assert_eq!(T::read(opaque(&file[..]), begin, &mut out), 0),
-    );
-    let alike = theirs.iter().zip(&out).all(|(a, b)| a.alike(*b));
-    assert!(alike, "{}: the values differ", T::LINE);
-    line(T::LINE, Some(a), b, <T as ByValue>::MOST);
+    let ours = |out: &mut [T]| assert_eq!(T::read(opaque(&file[..]), begin, out), 0);
+    let same = |a: &[T], b: &[T]| a.iter().zip(b).all(|(a, b)| a.alike(*b));
+    beside_loop(T::LINE, clock, &file[begin as usize..], ours, same);
 }

@@ -26,9 +26,9 @@ pub(crate) fn low16(x: u64) -> u16
     (x % 65536) as u16
 }
 
-// The bytes 0, 2, 4 and 6 of a number of eight, at their places: LLVM makes one mask of it.
+// The bytes 0, 2, 4 and 6 of a number of eight, at their places: LLVM makes one mask of it, and no result is above that mask.
 fn evens(x: u64) -> u64
-    ensures { λ r. ⌜ (r ≡ evens x) × (r ≤ 71777214294589695) ⌝ }
+    ensures { λ r. ⌜ (r ≡ evens x) × (r ≤ 0xff_00ff_00ff_00ff) ⌝ }
 {
     x % 256
         + x / 0x1_0000 % 256 * 0x1_0000

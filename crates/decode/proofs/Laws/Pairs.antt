@@ -25,38 +25,38 @@ lowest b r q x h e = ap (λ (n : ℕ). n % b) e ∙ digits-mod r h
 
 -- eight bytes, the least significant first
 abbrev eight : ℕ → ℕ → ℕ → ℕ → ℕ → ℕ → ℕ → ℕ → ℕ
-eight a b c d e f g h = a + b * 256 + c * 65536 + d * 16777216 + (e + f * 256 + g * 65536 + h * 16777216) * 4294967296
+eight a b c d e f g h = a + b * 256 + c * 0x1_0000 + d * 0x100_0000 + (e + f * 256 + g * 0x1_0000 + h * 0x100_0000) * 0x1_0000_0000
 
 evens-are : (a b c d e f g h x : ℕ) → a < 256 → b < 256 → c < 256 → d < 256 → e < 256 → f < 256 → g < 256 → h < 256 → x ≡ eight a b c d e f g h
-    → evens x ≡ a + c * 65536 + e * 4294967296 + g * 281474976710656
+    → evens x ≡ a + c * 0x1_0000 + e * 0x1_0000_0000 + g * 0x1_0000_0000_0000
 evens-are a b c d e f g h x ha hb hc hd he hf hg hh q =
-    let p = lowest 256 (b + c * 256 + d * 65536 + (e + f * 256 + g * 65536 + h * 16777216) * 16777216) a x ha (omega arith) in
-    let r = digit 65536 256 (d + (e + f * 256 + g * 65536 + h * 16777216) * 256) c (a + b * 256) x (omega arith) hc (omega arith) in
-    let t = digit 4294967296 256 (f + g * 256 + h * 65536) e (a + b * 256 + c * 65536 + d * 16777216) x (omega arith) he (omega arith) in
-    let u = digit 281474976710656 256 h g (a + b * 256 + c * 65536 + d * 16777216 + (e + f * 256) * 4294967296) x (omega arith) hg (omega arith) in
+    let p = lowest 256 (b + c * 256 + d * 0x1_0000 + (e + f * 256 + g * 0x1_0000 + h * 0x100_0000) * 0x100_0000) a x ha (omega arith) in
+    let r = digit 0x1_0000 256 (d + (e + f * 256 + g * 0x1_0000 + h * 0x100_0000) * 256) c (a + b * 256) x (omega arith) hc (omega arith) in
+    let t = digit 0x1_0000_0000 256 (f + g * 256 + h * 0x1_0000) e (a + b * 256 + c * 0x1_0000 + d * 0x100_0000) x (omega arith) he (omega arith) in
+    let u = digit 0x1_0000_0000_0000 256 h g (a + b * 256 + c * 0x1_0000 + d * 0x100_0000 + (e + f * 256) * 0x1_0000_0000) x (omega arith) hg (omega arith) in
     cc
 
 swapped-are : (a b c d e f g h x : ℕ) → a < 256 → b < 256 → c < 256 → d < 256 → e < 256 → f < 256 → g < 256 → h < 256 → x ≡ eight a b c d e f g h
-    → swapped x ≡ a * 256 + b + (c * 256 + d) * 65536 + (e * 256 + f) * 4294967296 + (g * 256 + h) * 281474976710656
+    → swapped x ≡ a * 256 + b + (c * 256 + d) * 0x1_0000 + (e * 256 + f) * 0x1_0000_0000 + (g * 256 + h) * 0x1_0000_0000_0000
 swapped-are a b c d e f g h x ha hb hc hd he hf hg hh q =
     let even = evens-are a b c d e f g h x ha hb hc hd he hf hg hh q in
     let odd = evens-are b c d e f g h 0 (x / 256) hb hc hd he hf hg hh (omega arith) (omega arith) in
     omega arith
 
--- the digits in base 65536
-quarters : (a b c d x : ℕ) → a < 65536 → b < 65536 → c < 65536 → d < 65536 → x ≡ a + b * 65536 + c * 4294967296 + d * 281474976710656
-    → (x % 65536 ≡ a) × (x / 65536 % 65536 ≡ b) × (x / 4294967296 % 65536 ≡ c) × (x / 281474976710656 % 65536 ≡ d)
+-- the digits in base 0x1_0000
+quarters : (a b c d x : ℕ) → a < 0x1_0000 → b < 0x1_0000 → c < 0x1_0000 → d < 0x1_0000 → x ≡ a + b * 0x1_0000 + c * 0x1_0000_0000 + d * 0x1_0000_0000_0000
+    → (x % 0x1_0000 ≡ a) × (x / 0x1_0000 % 0x1_0000 ≡ b) × (x / 0x1_0000_0000 % 0x1_0000 ≡ c) × (x / 0x1_0000_0000_0000 % 0x1_0000 ≡ d)
 quarters a b c d x ha hb hc hd e = (
-  lowest 65536 (b + c * 65536 + d * 4294967296) a x ha (omega arith),
-  digit 65536 65536 (c + d * 65536) b a x ha hb (omega arith),
-  digit 4294967296 65536 d c (a + b * 65536) x (omega arith) hc (omega arith),
-  digit 281474976710656 65536 0 d (a + b * 65536 + c * 4294967296) x (omega arith) hd (omega arith),
+  lowest 0x1_0000 (b + c * 0x1_0000 + d * 0x1_0000_0000) a x ha (omega arith),
+  digit 0x1_0000 0x1_0000 (c + d * 0x1_0000) b a x ha hb (omega arith),
+  digit 0x1_0000_0000 0x1_0000 d c (a + b * 0x1_0000) x (omega arith) hc (omega arith),
+  digit 0x1_0000_0000_0000 0x1_0000 0 d (a + b * 0x1_0000 + c * 0x1_0000_0000) x (omega arith) hd (omega arith),
 )
 
 module _ (s : List ℕ) (bytes : (i : ℕ) → getD s i 0 < 256) where
   -- the four numbers that eight bytes spell, out of those bytes read in the other order and swapped by pairs
-  pub pairs : (p x y : ℕ) → x ≡ little s p + little s (p + 4) * 4294967296 → y ≡ swapped x
-      → (y % 65536 ≡ be 2 s p) × (y / 65536 % 65536 ≡ be 2 s (p + 2)) × (y / 4294967296 % 65536 ≡ be 2 s (p + 4)) × (y / 281474976710656 % 65536 ≡ be 2 s (p + 4 + 2))
+  pub pairs : (p x y : ℕ) → x ≡ little s p + little s (p + 4) * 0x1_0000_0000 → y ≡ swapped x
+      → (y % 0x1_0000 ≡ be 2 s p) × (y / 0x1_0000 % 0x1_0000 ≡ be 2 s (p + 2)) × (y / 0x1_0000_0000 % 0x1_0000 ≡ be 2 s (p + 4)) × (y / 0x1_0000_0000_0000 % 0x1_0000 ≡ be 2 s (p + 4 + 2))
   pairs p x y e f =
       let whole = swapped-are _ _ _ _ _ _ _ _ x (bytes p) (bytes (p + 1)) (bytes (p + 2)) (bytes (p + 3)) (bytes (p + 4)) (bytes (p + 4 + 1)) (bytes (p + 4 + 2)) (bytes (p + 4 + 3)) e in
       let first = be-2 s p in
