@@ -1,5 +1,7 @@
 // Floats and doubles by value, for callers in other languages: what `bench/` measures beside the reads by bits of `exports`.
 // By value every NaN pattern becomes the one NaN, so that each value is tested; by bits none is.
+#![tactic(auto)]
+
 ghost use Rattle.cdf.specs.Step.{Leaves, got};
 ghost use Rattle.decode.specs.Decoded.{float, double};
 ghost use Rattle.reads.specs.Reads.{whole_from};

@@ -1,5 +1,7 @@
 // The words of the NetCDF classic format: each function reads one word of the grammar at a place of
 // the header's bytes, and its contract says that its answer means the step of that name in specs/.
+#![tactic(auto)]
+
 pub mod step; // step.rt: what a step answers
 pub mod word; // word.rt: words with a range
 pub mod version; // version.rt: magic word and version byte

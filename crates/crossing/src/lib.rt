@@ -1,3 +1,5 @@
 // Tables that cross to another language: as numbers in lent memory.
+#![tactic(auto)]
+
 pub mod store; // store.rt: tables put down as numbers
 pub mod load; // load.rt: numbers taken up as tables

@@ -1,5 +1,7 @@
 // The values that a chunk's bytes hold, and those of a whole variable, record by record. Inner functions: each `requires`
 // is what a read has tested before it decodes.
+#![tactic(auto)]
+
 pub mod pattern; // pattern.rt: the value that a pattern of bits stands for
 pub mod short; // short.rt: numbers of two bytes
 pub mod chunk; // chunk.rt: values that stand one after the other

@@ -1,1 +1,3 @@
 // Theorems alone: specs/ states each demand, proofs/ proves it.
+#![tactic(auto)]
+

@@ -1,5 +1,7 @@
 // What another language calls: functions over numbers and slices, each for every input. A slice crosses as a pointer and a length, an output of one number
 // as a pointer. Each answers 0 or the number of a refusal, and a refusal writes nothing.
+#![tactic(auto)]
+
 mod tables; // tables.rt: the header reader
 mod names; // names.rt: names and numbers of variables
 mod variable; // variable.rt: a variable, for a caller to keep between reads

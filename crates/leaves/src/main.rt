@@ -2,6 +2,8 @@
 // word, a space and bytes in hexadecimal; it is written back, and after it a line for each cut of the
 // bytes: the refusal's number and place, or 0 and the place after the word, and the value. The size
 // is that of all the line's bytes. tests/leaves.py writes the inputs and what is expected.
+#![tactic(auto)]
+
 ghost use Rattle.std.specs.Prelude.{◌<◌, ◌≤◌, length};
 ghost use Rattle.io.specs.Counts.{IsPrefixLen};
 

@@ -1,5 +1,7 @@
 // The listing program: standard input has one file a line, in hexadecimal; standard output gets a heading and a line for each file:
 // answer number, place, record count and header end, or `long`, or `hex`. Here is the reading and writing, the rest is in turn.rt.
+#![tactic(auto)]
+
 ghost use Rattle.std.specs.Prelude.{List, [], ℕ, ◌≤◌, length, take};
 ghost use Rattle.listing.specs.Listing.{Turns};
 

@@ -1,4 +1,6 @@
 // Tests of tables that are to be written.
+#![tactic(auto)]
+
 pub mod length; // length.rt: how many bytes of the header a row makes
 mod inside; // inside.rt: a row inside its text
 pub mod words; // words.rt: names, words and types in range

@@ -14,6 +14,8 @@
 //     2 ROOM LENGTH SIZE         the file's first bytes, a file of that size, widened into an output of so many bytes; 1: narrowed
 // The other letters change a number of the tables (tables.rt). tests/replay.py writes the lines and
 // what is expected.
+#![tactic(auto)]
+
 ghost use Rattle.std.specs.Prelude.{◌≤◌, length};
 ghost use Rattle.hexlines.specs.Inner.Cut.{kept};
 

@@ -1,4 +1,6 @@
 // The header writer.
+#![tactic(auto)]
+
 pub mod put; // put.rt: bytes, words and names into an output
 pub mod rows; // rows.rt: dimensions and attributes
 pub mod vars; // vars.rt: variables

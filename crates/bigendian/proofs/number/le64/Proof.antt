@@ -12,10 +12,10 @@ use Rattle.bigendian.proofs.number.le64.Tie as tie
 sub_part : tie.Need-overflow-sub-part
 sub_part c = search rules
 
-part-part-start : tie.Need-slice-bounds-part-start
+part-part-start : tie.Need-slice_bounds-part-start
 part-part-start c = search rules
 
-part-part-end : tie.Need-slice-bounds-part-end
+part-part-end : tie.Need-slice_bounds-part-end
 part-part-end c = search rules
 
 le32-requires : tie.Need-le32-requires
@@ -30,17 +30,17 @@ le32-requires-2 c κs = search rules
 wide64-requires-2 : tie.Need-wide64-requires-2
 wide64-requires-2 c κs = search rules
 
-mul-result : tie.Need-overflow-mul-result
+mul-result : tie.Need-overflow_mul-result
 mul-result c = search rules
 
-add-result : tie.Need-overflow-add-result
+add-result : tie.Need-overflow_add-result
 add-result c = search rules
 
 returns : tie.Need-returns
 returns c =
     let a = c.before.before.before.before.before.before.args in
     let low = c.before.before.wide64.ensures.0 ∙ c.before.before.before.le32.ensures ∙ little-part a.s.now a.at (length a.s.now - a.at) 0 (omega arith) ∙ ap (little a.s.now) (add-zero a.at) in
-    let high = c.wide642.ensures.0 ∙ c.before.le322.ensures ∙ little-part a.s.now a.at (length a.s.now - a.at) 4 (omega arith) in
+    let high = c.wide64-2.ensures.0 ∙ c.before.le32-2.ensures ∙ little-part a.s.now a.at (length a.s.now - a.at) 4 (omega arith) in
     cc
 
 pub le64-spec : {M : Type 1} → statement M
