@@ -1,0 +1,51 @@
+use borrow.Author.Rules.{rules}
+use Prim.Native.Nat.{ℕ, ◌-◌, ◌*◌, ◌≤◌}
+use mathlib.Core.Path.{◌∙◌, refl, ap, subst}
+use native.Mathlib.Omega.{arith}
+use mir.Syntax.{w16}
+use lib.ListN.{length-set}
+use Rattle.bigendian.specs.Number.{be}
+use Rattle.bigendian.specs.Lists.{tab}
+use Rattle.decode.specs.Decoded.{short}
+use Rattle.decode.specs.Inner.Chunks.{of_chunk}
+use Rattle.decode.proofs.Laws.Decoded.{stored}
+use Rattle.decode.proofs.Laws.Pairs.{pairs}
+use Rattle.decode.proofs.Laws.Filled.{Filled, filled_none, filled-since, filled_on, filled-four, filled-all}
+use Rattle.decode.proofs.chunk.decode_i16.Goals as goal
+
+pub loop-j-init : goal.loop-j-init
+loop-j-init c = filled_none _ _
+
+pub bounds-out-q-in-loop-j : goal.bounds-out-q-in-loop-j
+bounds-out-q-in-loop-j c = simp length-set (omega arith)
+
+pub bounds-out-q-in-loop-j-2 : goal.bounds-out-q-in-loop-j-2
+bounds-out-q-in-loop-j-2 c = simp length-set (omega arith)
+
+pub bounds-out-q-in-loop-j-3 : goal.bounds-out-q-in-loop-j-3
+bounds-out-q-in-loop-j-3 c = simp length-set (omega arith)
+
+pub loop-j-preserved : goal.loop-j-preserved
+loop-j-preserved c =
+    let src = c.args.src.now in
+    let four = pairs src (λ i. (c.type_inv.src i).fits) (8 * c.loop-j.j) _ _ c.le64.ensures c.swap_pairs-x.ensures in
+    filled-four _ _ c.loop-j.j c.loop-j.invariant (omega arith)
+    (stored w16 c.i16_of.type-inv c.i16_of.ensures (c.low16.ensures ∙ four.0 ∙ ap (be 2 src) (omega arith)))
+    (stored w16 c.i16_of-in-loop-j.type-inv c.i16_of-in-loop-j.ensures (c.low16-in-loop-j.ensures ∙ four.1 ∙ ap (be 2 src) (omega arith)))
+    (stored w16 c.i16_of-in-loop-j-2.type-inv c.i16_of-in-loop-j-2.ensures (c.low16-in-loop-j-2.ensures ∙ four.2 ∙ ap (be 2 src) (omega arith)))
+    (stored w16 c.i16_of-in-loop-j-3.type-inv c.i16_of-in-loop-j-3.ensures (c.low16-in-loop-j-3.ensures ∙ four.3 ∙ ap (be 2 src) (omega arith)))
+
+pub loop-rest-init : goal.loop-rest-init
+loop-rest-init c =
+    (subst (λ (k : ℕ). Filled (of_chunk short 2 c.args.src.now) c.loop-j.out c.loop-j.out k) (omega arith) (filled-since _ _ c.loop-j.invariant), omega arith)
+
+pub loop-rest-preserved : goal.loop-rest-preserved
+loop-rest-preserved c =
+    let inv = c.loop-rest.invariant in
+    (filled_on _ _ inv.0 refl (omega arith) (omega arith) (stored w16 c.i16_of-in-loop-rest.type-inv c.i16_of-in-loop-rest.ensures c.be16.ensures), omega arith)
+
+pub returns : goal.returns
+returns c =
+    let long = c.loop-j.invariant.long in
+    let inv = c.loop-rest.invariant in
+    filled-all _ _ inv.0 (omega arith) ∙ ap (tab (of_chunk short 2 c.args.src.now)) long

@@ -1,0 +1,26 @@
+use borrow.Author.Rules.{rules}
+use Prim.Native.Nat.{ℕ, ◌-◌, ◌*◌, ◌≤◌}
+use mathlib.Core.Path.{◌∙◌, refl, ap, subst}
+use native.Mathlib.Omega.{arith}
+use mir.Syntax.{w16}
+use lib.ListN.{length-set}
+use Rattle.bigendian.specs.Number.{be}
+use Rattle.bigendian.specs.Lists.{tab}
+use Rattle.decode.specs.Decoded.{short}
+use Rattle.decode.specs.Inner.Chunks.{of_chunk}
+use Rattle.decode.proofs.Laws.Decoded.{stored}
+use Rattle.decode.proofs.Laws.Pairs.{pairs}
+use Rattle.decode.proofs.Laws.Filled.{Filled, filled_none, filled-since, filled_on, filled-four, filled-all}
+use Rattle.decode.proofs.chunk.decode_i16.Given as goal
+
+abbrev pub invariant-loop-j : goal.invariant-loop-j
+invariant-loop-j l = Filled (of_chunk short 2 l.src) l.initial.out l.out (4 * l.j)
+
+abbrev pub decreases-loop-j : goal.decreases-loop-j
+decreases-loop-j l = l.fours - l.j
+
+abbrev pub invariant-loop-rest : goal.invariant-loop-rest
+invariant-loop-rest l = Filled (of_chunk short 2 l.src) l.initial.out l.out (l.n - l.rest) × (l.rest ≤ l.n)
+
+abbrev pub decreases-loop-rest : goal.decreases-loop-rest
+decreases-loop-rest l = l.rest

@@ -1,0 +1,20 @@
+use borrow.Author.Rules.{rules}
+use Prim.Native.Nat.{◌-◌}
+use mir.Syntax.{w8}
+use lib.ListN.{length}
+use Rattle.decode.specs.Decoded.{byte}
+use Rattle.decode.specs.Inner.Chunks.{of_chunk}
+use Rattle.decode.proofs.Laws.Decoded.{one_byte, stored}
+use Rattle.decode.proofs.Laws.Filled.{Filled, filled_none, filled_more, filled-all}
+use Rattle.decode.proofs.chunk.decode_i8.Goals as goal
+
+pub loop-i-init : goal.loop-i-init
+loop-i-init c = filled_none _ _
+
+pub loop-i-preserved : goal.loop-i-preserved
+loop-i-preserved c =
+    filled_more _ _ _ c.loop-i.invariant c.loop-i-test.true
+    (stored w8 c.i8_of.type-inv c.i8_of.ensures (one_byte _ _))
+
+pub returns : goal.returns
+returns c = filled-all _ _ c.loop-i.invariant c.loop-i-test.false

@@ -1,0 +1,16 @@
+use borrow.Author.Rules.{rules}
+use Prim.Native.Nat.{◌-◌}
+use lib.ListN.{length}
+use Rattle.decode.specs.Decoded.{raw}
+use Rattle.decode.specs.Inner.Chunks.{of_chunk}
+use Rattle.decode.proofs.Laws.Filled.{Filled, filled_none, filled_more, filled-all}
+use Rattle.decode.proofs.chunk.decode_u64.Goals as goal
+
+pub loop-i-init : goal.loop-i-init
+loop-i-init c = filled_none _ _
+
+pub loop-i-preserved : goal.loop-i-preserved
+loop-i-preserved c = filled_more _ _ _ c.loop-i.invariant c.loop-i-test.true c.be64.ensures
+
+pub returns : goal.returns
+returns c = filled-all _ _ c.loop-i.invariant c.loop-i-test.false
