@@ -30,10 +30,10 @@ loop-j-preserved c =
     let src = c.args.src.now in
     let four = pairs src (λ i. (c.type_inv.src i).fits) (8 * c.loop-j.j) _ _ c.le64.ensures c.swap_pairs-x.ensures in
     filled-four _ _ c.loop-j.j c.loop-j.invariant (omega arith)
-    (stored w16 c.i16_of.type-inv c.i16_of.ensures (c.low16.ensures ∙ four.0 ∙ ap (be 2 src) (omega arith)))
-    (stored w16 c.i16_of-in-loop-j.type-inv c.i16_of-in-loop-j.ensures (c.low16-in-loop-j.ensures ∙ four.1 ∙ ap (be 2 src) (omega arith)))
-    (stored w16 c.i16_of-in-loop-j-2.type-inv c.i16_of-in-loop-j-2.ensures (c.low16-in-loop-j-2.ensures ∙ four.2 ∙ ap (be 2 src) (omega arith)))
-    (stored w16 c.i16_of-in-loop-j-3.type-inv c.i16_of-in-loop-j-3.ensures (c.low16-in-loop-j-3.ensures ∙ four.3 ∙ ap (be 2 src) (omega arith)))
+    (stored w16 c.i16_of.type_inv c.i16_of.ensures (c.low16.ensures ∙ four.0 ∙ ap (be 2 src) (omega arith)))
+    (stored w16 c.i16_of-in-loop-j.type_inv c.i16_of-in-loop-j.ensures (c.low16-in-loop-j.ensures ∙ four.1 ∙ ap (be 2 src) (omega arith)))
+    (stored w16 c.i16_of-in-loop-j-2.type_inv c.i16_of-in-loop-j-2.ensures (c.low16-in-loop-j-2.ensures ∙ four.2 ∙ ap (be 2 src) (omega arith)))
+    (stored w16 c.i16_of-in-loop-j-3.type_inv c.i16_of-in-loop-j-3.ensures (c.low16-in-loop-j-3.ensures ∙ four.3 ∙ ap (be 2 src) (omega arith)))
 
 pub loop-rest-init : goal.loop-rest-init
 loop-rest-init c =
@@ -42,7 +42,7 @@ loop-rest-init c =
 pub loop-rest-preserved : goal.loop-rest-preserved
 loop-rest-preserved c =
     let inv = c.loop-rest.invariant in
-    (filled_on _ _ inv.0 refl (omega arith) (omega arith) (stored w16 c.i16_of-in-loop-rest.type-inv c.i16_of-in-loop-rest.ensures c.be16.ensures), omega arith)
+    (filled_on _ _ inv.0 refl (omega arith) (omega arith) (stored w16 c.i16_of-in-loop-rest.type_inv c.i16_of-in-loop-rest.ensures c.be16.ensures), omega arith)
 
 pub returns : goal.returns
 returns c =

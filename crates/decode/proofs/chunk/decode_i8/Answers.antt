@@ -14,7 +14,7 @@ loop-i-init c = filled_none _ _
 pub loop-i-preserved : goal.loop-i-preserved
 loop-i-preserved c =
     filled_more _ _ _ c.loop-i.invariant c.loop-i-test.true
-    (stored w8 c.i8_of.type-inv c.i8_of.ensures (one_byte _ _))
+    (stored w8 c.i8_of.type_inv c.i8_of.ensures (one_byte _ _))
 
 pub returns : goal.returns
 returns c = filled-all _ _ c.loop-i.invariant c.loop-i-test.false

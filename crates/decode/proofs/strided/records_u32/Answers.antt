@@ -12,67 +12,88 @@ use Rattle.bigendian.proofs.Laws.Lists.{row_in}
 use Rattle.decode.proofs.Laws.Tabled.{Tabled, tabled-none, tabled-more, row-of-part}
 use Rattle.decode.proofs.strided.records_u32.Goals as goal
 
--- in a turn, row k lies within out, and record k within src
-inside : (c : tie.In-loop invariant-loop decreases-loop) → let a = c.before.before.before.before.args in (c.before.loop.k * a.chunk + a.chunk ≤ length c.before.loop.out) × (c.before.loop.k * a.stride + 4 * a.chunk ≤ length a.src.now)
-inside c =
-    let start = c.before.before.before.before in
-    let row = row_in _ _ start.args.chunk _ c.loop-test.true start.requires.0 in
-    (omega arith, start.requires.1 _ c.loop-test.true)
-
 pub loop-k-init : goal.loop-k-init
 loop-k-init c = (search rules, tabled-none _ _ _)
 
 pub overflow_mul-a : goal.overflow_mul-a
-overflow_mul-a c = let i = inside c in omega arith
+overflow_mul-a c = let row = row_in _ _ c.args.chunk _ c.loop-k-test.true c.requires.chunk_in_bounds in
+    let part = c.requires.by_index _ c.loop-k-test.true in
+    let inside : c.loop-k.k * c.args.chunk + c.args.chunk ≤ length c.loop-k.out = omega arith in omega arith
 
 pub overflow_add-b : goal.overflow_add-b
-overflow_add-b c = let i = inside c in omega arith
+overflow_add-b c = let row = row_in _ _ c.args.chunk _ c.loop-k-test.true c.requires.chunk_in_bounds in
+    let part = c.requires.by_index _ c.loop-k-test.true in
+    let inside : c.loop-k.k * c.args.chunk + c.args.chunk ≤ length c.loop-k.out = omega arith in omega arith
 
 pub overflow_mul-c : goal.overflow_mul-c
-overflow_mul-c c = let i = inside c in omega arith
+overflow_mul-c c = let row = row_in _ _ c.args.chunk _ c.loop-k-test.true c.requires.chunk_in_bounds in
+    let part = c.requires.by_index _ c.loop-k-test.true in
+    let inside : c.loop-k.k * c.args.chunk + c.args.chunk ≤ length c.loop-k.out = omega arith in omega arith
 
 pub overflow_mul-d : goal.overflow_mul-d
-overflow_mul-d c = let i = inside c in omega arith
+overflow_mul-d c = let row = row_in _ _ c.args.chunk _ c.loop-k-test.true c.requires.chunk_in_bounds in
+    let part = c.requires.by_index _ c.loop-k-test.true in
+    let inside : c.loop-k.k * c.args.chunk + c.args.chunk ≤ length c.loop-k.out = omega arith in omega arith
 
 pub overflow_add-d : goal.overflow_add-d
-overflow_add-d c = let i = inside c in omega arith
+overflow_add-d c = let row = row_in _ _ c.args.chunk _ c.loop-k-test.true c.requires.chunk_in_bounds in
+    let part = c.requires.by_index _ c.loop-k-test.true in
+    let inside : c.loop-k.k * c.args.chunk + c.args.chunk ≤ length c.loop-k.out = omega arith in omega arith
 
 pub slice_bounds-decode_u32-count : goal.slice_bounds-decode_u32-count
-slice_bounds-decode_u32-count c = let i = inside c in omega arith
+slice_bounds-decode_u32-count c = let row = row_in _ _ c.args.chunk _ c.loop-k-test.true c.requires.chunk_in_bounds in
+    let part = c.requires.by_index _ c.loop-k-test.true in
+    let inside : c.loop-k.k * c.args.chunk + c.args.chunk ≤ length c.loop-k.out = omega arith in omega arith
 
 pub slice_bounds-decode_u32-start : goal.slice_bounds-decode_u32-start
-slice_bounds-decode_u32-start c = let i = inside c in omega arith
+slice_bounds-decode_u32-start c = let row = row_in _ _ c.args.chunk _ c.loop-k-test.true c.requires.chunk_in_bounds in
+    let part = c.requires.by_index _ c.loop-k-test.true in
+    let inside : c.loop-k.k * c.args.chunk + c.args.chunk ≤ length c.loop-k.out = omega arith in omega arith
 
 pub slice_bounds-decode_u32-end : goal.slice_bounds-decode_u32-end
-slice_bounds-decode_u32-end c = let i = inside c in omega arith
+slice_bounds-decode_u32-end c = let row = row_in _ _ c.args.chunk _ c.loop-k-test.true c.requires.chunk_in_bounds in
+    let part = c.requires.by_index _ c.loop-k-test.true in
+    let inside : c.loop-k.k * c.args.chunk + c.args.chunk ≤ length c.loop-k.out = omega arith in omega arith
 
 pub offset_bounds-out-a : goal.offset_bounds-out-a
-offset_bounds-out-a c = let i = inside c in omega arith
+offset_bounds-out-a c = let row = row_in _ _ c.args.chunk _ c.loop-k-test.true c.requires.chunk_in_bounds in
+    let part = c.requires.by_index _ c.loop-k-test.true in
+    let inside : c.loop-k.k * c.args.chunk + c.args.chunk ≤ length c.loop-k.out = omega arith in omega arith
 
 pub slice_bounds-decode_u32-count-in-loop-k : goal.slice_bounds-decode_u32-count-in-loop-k
-slice_bounds-decode_u32-count-in-loop-k c = let i = inside c in omega arith
+slice_bounds-decode_u32-count-in-loop-k c = let row = row_in _ _ c.args.chunk _ c.loop-k-test.true c.requires.chunk_in_bounds in
+    let part = c.requires.by_index _ c.loop-k-test.true in
+    let inside : c.loop-k.k * c.args.chunk + c.args.chunk ≤ length c.loop-k.out = omega arith in omega arith
 
 pub slice_bounds-decode_u32-start-in-loop-k : goal.slice_bounds-decode_u32-start-in-loop-k
-slice_bounds-decode_u32-start-in-loop-k c = let i = inside c in omega arith
+slice_bounds-decode_u32-start-in-loop-k c = let row = row_in _ _ c.args.chunk _ c.loop-k-test.true c.requires.chunk_in_bounds in
+    let part = c.requires.by_index _ c.loop-k-test.true in
+    let inside : c.loop-k.k * c.args.chunk + c.args.chunk ≤ length c.loop-k.out = omega arith in omega arith
 
 pub slice_bounds-decode_u32-end-in-loop-k : goal.slice_bounds-decode_u32-end-in-loop-k
-slice_bounds-decode_u32-end-in-loop-k c = let i = inside c in omega arith
+slice_bounds-decode_u32-end-in-loop-k c = let row = row_in _ _ c.args.chunk _ c.loop-k-test.true c.requires.chunk_in_bounds in
+    let part = c.requires.by_index _ c.loop-k-test.true in
+    let inside : c.loop-k.k * c.args.chunk + c.args.chunk ≤ length c.loop-k.out = omega arith in omega arith
 
 pub decode_u32-requires : goal.decode_u32-requires
 decode_u32-requires c =
-    let i = inside c in
+    let row = row_in _ _ c.args.chunk _ c.loop-k-test.true c.requires.chunk_in_bounds in
+    let part = c.requires.by_index _ c.loop-k-test.true in
+    let inside : c.loop-k.k * c.args.chunk + c.args.chunk ≤ length c.loop-k.out = omega arith in
     let a = c.args in
-    let p = mid_len (c.loop-k.k * a.stride) _ a.src.now i.1 in
-    let q = mid_len (c.loop-k.k * a.chunk) _ c.loop-k.out i.0 in
+    let p = mid_len (c.loop-k.k * a.stride) _ a.src.now part in
+    let q = mid_len (c.loop-k.k * a.chunk) _ c.loop-k.out inside in
     omega arith
 
 pub loop-k-preserved : goal.loop-k-preserved
 loop-k-preserved c =
-    let i = inside c in
+    let row = row_in _ _ c.args.chunk _ c.loop-k-test.true c.requires.chunk_in_bounds in
+    let part = c.requires.by_index _ c.loop-k-test.true in
+    let inside : c.loop-k.k * c.args.chunk + c.args.chunk ≤ length c.loop-k.out = omega arith in
     let a = c.args in (
       search rules,
       tabled-more _ _ _ _ c.loop-k.invariant.1 (omega arith)
-          (c.decode_u32.ensures ∙ row-of-part raw 4 a.src.now (c.loop-k.k * a.stride) _ c.loop-k.out (c.loop-k.k * a.chunk) a.chunk (omega arith) i.0),
+          (c.decode_u32.ensures ∙ row-of-part raw 4 a.src.now (c.loop-k.k * a.stride) _ c.loop-k.out (c.loop-k.k * a.chunk) a.chunk (omega arith) inside),
     )
 
 pub returns : goal.returns
