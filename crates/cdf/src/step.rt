@@ -2,14 +2,14 @@
 ghost use Rattle.std.specs.Prelude.{◌≡◌, cond, ltb};
 
 // A step that reads a number.
-#[derive(Drop)]
+#[derive(Clone, Copy)]
 pub enum Word {
     Got(u64, usize),
     Stop(u8, usize),
 }
 
 // A step that passes over bytes.
-#[derive(Drop)]
+#[derive(Clone, Copy)]
 pub enum Next {
     At(usize),
     Stop(u8, usize),

@@ -6,7 +6,7 @@ ghost use Rattle.cdf.specs.Magic.{begins, magic, admits, version_byte};
 use crate::step::{Next, Word, unfinished};
 
 // The versions that a reader admits.
-#[derive(Drop)]
+#[derive(Clone, Copy)]
 pub struct Admitted {
     pub classic: bool,
     pub offset64: bool,

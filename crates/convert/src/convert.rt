@@ -18,7 +18,7 @@ use sizes::records::{ends_hold, measure};
 use writer::header::write_header;
 
 // What widening and narrowing answer: 0, the new header's length and the new file's size; or the number and place of a refusal.
-#[derive(Drop)]
+#[derive(Clone, Copy)]
 pub struct Converted {
     pub number: u8,
     pub place: usize,

@@ -9,26 +9,26 @@ use crate::store::WORDS;
 use grammar::tables::{Attr, Dim, Tables, Var, blank};
 
 // The answer: 0 and the tables; or 23 and blank tables.
-#[derive(Drop)]
+#[derive(Clone, Copy)]
 pub struct Loaded {
     pub number: u8,
     pub tables: Tables,
 }
 
 // Rows, and whether every number fits its field; where one does not, the rows are of no account.
-#[derive(Drop)]
+#[derive(Clone, Copy)]
 struct DimRows {
     hold: bool,
     rows: [Dim; 32],
 }
 
-#[derive(Drop)]
+#[derive(Clone, Copy)]
 struct AttrRows {
     hold: bool,
     rows: [Attr; 128],
 }
 
-#[derive(Drop)]
+#[derive(Clone, Copy)]
 struct VarRows {
     hold: bool,
     rows: [Var; 64],

@@ -9,7 +9,7 @@ use model::rules::ids_hold;
 use sizes::records::{ends_hold, measure};
 
 // Whether tables may be read, and their record size.
-#[derive(Drop)]
+#[derive(Clone, Copy)]
 pub struct Tested {
     pub hold: bool,
     pub step: u64,

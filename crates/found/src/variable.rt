@@ -10,7 +10,7 @@ use items::types::DataType;
 use sizes::records::{chunk_len, is_record};
 
 // The numbers that a read needs of a variable.
-#[derive(Drop)]
+#[derive(Clone, Copy)]
 pub struct Spread {
     pub begin: u64,
     pub records: u64,
@@ -20,7 +20,7 @@ pub struct Spread {
     pub code: u8,
 }
 
-#[derive(Drop)]
+#[derive(Clone, Copy)]
 pub enum Sought {
     Got(Spread),
     Refused(u8),

@@ -18,7 +18,7 @@ use items::name::parse_name_string;
 use items::types::{DataType, Typed, parse_data_type};
 use items::values::parse_typed_data_elements;
 
-#[derive(Drop)]
+#[derive(Clone, Copy)]
 pub enum AttrStep {
     Got(Attr, usize),
     Stop(u8, usize),

@@ -14,7 +14,7 @@ use cdf::step::{Next, Word};
 use cdf::word::parse_non_neg;
 use items::name::parse_name_string;
 
-#[derive(Drop)]
+#[derive(Clone, Copy)]
 pub enum DimStep {
     Got(Dim, usize),
     Stop(u8, usize),

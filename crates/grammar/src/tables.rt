@@ -20,7 +20,7 @@ pub const MAX_POSITION: u64 = 0x4000_0000_0000_0000;
 // are most of what a header costs, and rows with gaps are filled and copied field by field.
 
 // A dimension; length 0 marks the unlimited one.
-#[derive(Drop)]
+#[derive(Clone, Copy)]
 pub struct Dim {
     pub name: usize,
     pub chars: u32,
@@ -28,7 +28,7 @@ pub struct Dim {
 }
 
 // An attribute; its values stand at `values`.
-#[derive(Drop)]
+#[derive(Clone, Copy)]
 pub struct Attr {
     pub name: usize,
     pub chars: u16,
@@ -39,7 +39,7 @@ pub struct Attr {
 
 // A variable over the dimensions `ids`, the first `rank` of them; its attributes are the `attrs` rows
 // from `first` on; `begin` has the 64 bits of the signed number.
-#[derive(Drop)]
+#[derive(Clone, Copy)]
 pub struct Var {
     pub name: usize,
     pub chars: u32,
@@ -54,7 +54,7 @@ pub struct Var {
 
 // `word` is the count word as read, `count` the record count, `size` the file's size. The first
 // `globals` attributes are the global ones.
-#[derive(Drop)]
+#[derive(Clone, Copy)]
 pub struct Tables {
     pub version: u8,
     pub word: u64,
@@ -70,7 +70,7 @@ pub struct Tables {
 }
 
 // The tables of a list that was read, and where it ends; or the refusal, whatever the tables then hold.
-#[derive(Drop)]
+#[derive(Clone, Copy)]
 pub struct Listed {
     pub next: Next,
     pub tables: Tables,

@@ -19,14 +19,14 @@ use items::name::parse_name_string;
 use items::types::{DataType, Typed, parse_data_type};
 
 // A variable's row with what was read of it so far, and where that ends; or the refusal.
-#[derive(Drop)]
+#[derive(Clone, Copy)]
 pub struct Rowed {
     pub next: Next,
     pub row: Var,
 }
 
 // The same with the number of attributes that follow.
-#[derive(Drop)]
+#[derive(Clone, Copy)]
 pub struct Started {
     pub next: Next,
     pub row: Var,
@@ -34,14 +34,14 @@ pub struct Started {
 }
 
 // What stands after a variable's attributes.
-#[derive(Drop)]
+#[derive(Clone, Copy)]
 pub struct Tail {
     pub code: u8,
     pub vsize: u64,
     pub begin: u64,
 }
 
-#[derive(Drop)]
+#[derive(Clone, Copy)]
 pub enum TailStep {
     Got(Tail, usize),
     Stop(u8, usize),

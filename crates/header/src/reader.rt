@@ -12,7 +12,7 @@ use sizes::count::{Counted, record_count};
 use sizes::records::{ends_hold, measure};
 
 // What the header reader answers: the number and place of a refusal, or 0 and the header's end.
-#[derive(Drop)]
+#[derive(Clone, Copy)]
 pub struct Header {
     pub number: u8,
     pub place: usize,

@@ -6,7 +6,7 @@ ghost use Rattle.hexlines.specs.Inner.Cut.{Cuts, kept};
 pub const KEPT: usize = 16385;
 
 // Where the block goes on, how many characters of the line are held, whether its line end was met.
-#[derive(Drop)]
+#[derive(Clone, Copy)]
 pub struct Cut {
     pub next: usize,
     pub held: usize,

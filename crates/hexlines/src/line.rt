@@ -10,7 +10,7 @@ use crate::digit::{NO_DIGIT, worth};
 pub const MAX_LINE: usize = 16384;
 
 // What a line answers: it is too long, it is no hexadecimal, or it spells a file of so many bytes.
-#[derive(Drop)]
+#[derive(Clone, Copy)]
 pub enum Line {
     Long,
     Hex,

@@ -6,7 +6,7 @@ ghost use Rattle.items.specs.Inner.DataTypes.{of_typed, code_of};
 use cdf::step::Word;
 use cdf::word::parse_non_neg;
 
-#[derive(Drop)]
+#[derive(Clone, Copy)]
 pub enum DataType {
     // byte, signed
     I8,
@@ -23,7 +23,7 @@ pub enum DataType {
 }
 
 // A step that reads a type.
-#[derive(Drop)]
+#[derive(Clone, Copy)]
 pub enum Typed {
     Got(DataType, usize),
     Stop(u8, usize),

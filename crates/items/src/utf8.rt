@@ -3,14 +3,14 @@ ghost use Rattle.std.specs.Prelude.{◌≡◌};
 ghost use Rattle.items.specs.Utf8.{sequences, opening, after, utf8};
 
 // What is due in a sequence that has begun: `more` bytes, the next of them from `low` to `high`.
-#[derive(Drop)]
+#[derive(Clone, Copy)]
 pub struct Due {
     pub more: u8,
     pub low: u8,
     pub high: u8,
 }
 
-#[derive(Drop)]
+#[derive(Clone, Copy)]
 pub enum Scanned {
     Good(Due),
     Bad,

@@ -16,7 +16,7 @@ use items::name::parse_name_string;
 use items::types::{Typed, parse_data_type};
 use items::values::parse_typed_data_elements;
 
-#[derive(Drop)]
+#[derive(Clone, Copy)]
 pub struct Answer {
     pub number: u8,
     pub place: usize,

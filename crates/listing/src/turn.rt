@@ -8,7 +8,7 @@ use hexlines::cut::{Cut, cut_line};
 use hexlines::text::put_text;
 
 // Where the text goes on, how many characters of the open line are held, and how many bytes of output there are.
-#[derive(Drop)]
+#[derive(Clone, Copy)]
 pub struct Turned {
     pub next: usize,
     pub held: usize,

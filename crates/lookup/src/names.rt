@@ -6,7 +6,7 @@ ghost use Rattle.lookup.specs.Lookup.{names_inside, find_var, of_found, name_of,
 
 use grammar::tables::{MAX_VARS, Tables, Var};
 
-#[derive(Drop)]
+#[derive(Clone, Copy)]
 pub enum Found {
     At(usize),
     Refused(u8),

@@ -11,7 +11,7 @@ use crate::words::{attr_holds, dim_holds, var_holds};
 use grammar::tables::{MAX_ATTRS, Tables};
 
 // Whether rows hold, and if so the bytes that they make.
-#[derive(Drop)]
+#[derive(Clone, Copy)]
 pub(crate) struct Rows {
     pub hold: bool,
     pub length: u64,

@@ -34,7 +34,7 @@ fn counts_hold(t: Tables) -> bool
 }
 
 // Whether tables can be written, and if so how long their header is.
-#[derive(Drop)]
+#[derive(Clone, Copy)]
 pub struct Verdict {
     pub writable: bool,
     pub length: u64,

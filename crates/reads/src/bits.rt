@@ -14,13 +14,13 @@ use found::variable::{Sought, Spread};
 use items::types::DataType;
 
 // The code of a type and the bits of a value of it.
-#[derive(Drop)]
+#[derive(Clone, Copy)]
 pub struct Bits {
     pub code: u8,
     pub bits: u64,
 }
 
-#[derive(Drop)]
+#[derive(Clone, Copy)]
 pub enum Told {
     Got(Bits),
     Refused(u8),

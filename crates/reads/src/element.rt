@@ -16,7 +16,7 @@ use items::types::DataType;
 
 // A value of the variable's type, or the number of the refusal. A float and a double have their bits beside them: the language has one
 // NaN, so that a NaN's own bits cannot pass through the value.
-#[derive(Drop)]
+#[derive(Clone, Copy)]
 pub enum Value {
     Byte(i8),
     Char(u8),

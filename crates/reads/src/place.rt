@@ -5,7 +5,7 @@ ghost use Rattle.reads.specs.Inner.Spot.{of_spot, Bounded, element_spot};
 
 use found::variable::Spread;
 
-#[derive(Drop)]
+#[derive(Clone, Copy)]
 pub enum Spot {
     At(usize),
     Refused(u8),

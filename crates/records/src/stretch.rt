@@ -10,7 +10,7 @@ use reads::kept::kept_as;
 use reads::place::holds;
 
 // `count` chunks of `chunk` elements, the first at `at`, one `stride` bytes after the other.
-#[derive(Drop)]
+#[derive(Clone, Copy)]
 pub struct Stretch {
     pub at: usize,
     pub count: usize,
@@ -18,7 +18,7 @@ pub struct Stretch {
     pub stride: usize,
 }
 
-#[derive(Drop)]
+#[derive(Clone, Copy)]
 pub enum Stretched {
     Got(Stretch),
     Refused(u8),

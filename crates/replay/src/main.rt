@@ -43,7 +43,7 @@ mod text;
 mod written;
 
 // The last file's tables and size, the window on its bytes, and where the reads are told that it starts.
-#[derive(Drop)]
+#[derive(Clone, Copy)]
 struct Held {
     tables: Tables,
     size: usize,

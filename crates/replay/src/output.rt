@@ -17,7 +17,7 @@ use records::whole::{
 };
 
 // The variable's records, all or one, by the type of the code, into an output of `room` elements.
-#[derive(Drop)]
+#[derive(Clone, Copy)]
 pub struct Ask {
     pub all: bool,
     pub var: usize,

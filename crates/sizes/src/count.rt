@@ -12,14 +12,14 @@ use cdf::word::INDETERMINATE;
 use grammar::tables::Tables;
 use model::rules::unlimited;
 
-#[derive(Drop)]
+#[derive(Clone, Copy)]
 pub enum Counted {
     Records(u64),
     Refused(u8),
 }
 
 // A count that does not follow from the file's size, or that it is open.
-#[derive(Drop)]
+#[derive(Clone, Copy)]
 pub enum Known {
     Count(u64),
     Open,

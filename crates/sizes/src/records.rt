@@ -19,7 +19,7 @@ pub const MAX_CHUNK: u64 = 0x1000_0000_0000_0000;
 // What one pass over the variables finds: whether rule 12 holds, and where it does, the record size, the
 // smallest begin of a record variable, whether the fixed variables end inside, and the largest end of a
 // record variable's first chunk.
-#[derive(Drop)]
+#[derive(Clone, Copy)]
 pub struct Sizes {
     pub hold: bool,
     pub step: u64,

@@ -6,7 +6,7 @@ use grammar::tables::Tables;
 use order::writable::judged;
 
 // What the writer answers: 0 and the header's length, or the number of a refusal and 0.
-#[derive(Drop)]
+#[derive(Clone, Copy)]
 pub struct Written {
     pub number: u8,
     pub length: u64,
