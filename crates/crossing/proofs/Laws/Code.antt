@@ -8,10 +8,14 @@ use lib.ListN.{length, get_or, length-map}
 use lib.Dec.{ltb}
 use borrow.Author.Tests.{lt-ltb}
 use mir.Val.{Val}
+use denote.Builtin.{u32}
 use denote.Shadow.{shadow}
 use denote.Struct.Declared.{row}
 use Rattle.cdf.proofs.Laws.Below.{all_hold}
 use Rattle.grammar.specs.contracts.tables.Tables.{the_type}
+use Rattle.grammar.specs.contracts.tables.Dim as dim_type
+use Rattle.grammar.specs.contracts.tables.Attr as attr_type
+use Rattle.grammar.specs.contracts.tables.Var as var_type
 use Rattle.grammar.proofs.Laws.Arrays.{element}
 use Rattle.grammar.specs.Tables.{no_dim, no_attr, no_var, dim_at, attr_at, var_at, id_at}
 use Rattle.grammar.specs.declared.tables.Dim.{Dim}
@@ -38,35 +42,35 @@ var-fits v a b d e f ids =
 -- the lengths of the arrays
 module _ (t : Tables) (vs : List Val) (good : shadow ((row the_type).own_val t vs)) where
   many-dims : length t.dims ≡ 32
-  many-dims = sym (length-map t.dims _) ∙ good.1.1.1.1.1.1.1.0.1.0.1
+  many-dims = good.1.1.1.1.1.1.1.0.1.0.1
 
   many-attrs : length t.attrs ≡ 128
-  many-attrs = sym (length-map t.attrs _) ∙ good.1.1.1.1.1.1.1.1.1.1.0.1.0.1
+  many-attrs = good.1.1.1.1.1.1.1.1.1.1.0.1.0.1
 
   many-vars : length t.vars ≡ 64
-  many-vars = sym (length-map t.vars _) ∙ good.1.1.1.1.1.1.1.1.1.1.1.1.0.1.0.1
+  many-vars = good.1.1.1.1.1.1.1.1.1.1.1.1.0.1.0.1
 
   -- and the rows
   code-dim : (i : ℕ) → i < 32 → dim_in_fields (dim_at t i) ≡ true
   code-dim i h =
-      let d = (element _ _ _ no_dim t.dims _ good.1.1.1.1.1.1.1.0.1.1 i (omega (arith, many-dims))).1 in
+      let d = (element (row dim_type.the_type).own_val no_dim t.dims _ good.1.1.1.1.1.1.1.0.1.1 i (omega (arith, many-dims))).1 in
       dim-fits (dim_at t i) d.1.1.1.0.1 d.1.1.1.1.0.1
 
   code-attr : (i : ℕ) → i < 128 → attr_in_fields (attr_at t i) ≡ true
   code-attr i h =
-      let a = (element _ _ _ no_attr t.attrs _ good.1.1.1.1.1.1.1.1.1.1.0.1.1 i (omega (arith, many-attrs))).1 in
+      let a = (element (row attr_type.the_type).own_val no_attr t.attrs _ good.1.1.1.1.1.1.1.1.1.1.0.1.1 i (omega (arith, many-attrs))).1 in
       attr-fits (attr_at t i) a.1.1.1.0.1 a.1.1.1.1.0.1 a.1.1.1.1.1.0.1
 
   code-ids : (i : ℕ) → i < 64 → length (var_at t i).ids ≡ 8
   code-ids i h =
-      let v = (element _ _ _ no_var t.vars _ good.1.1.1.1.1.1.1.1.1.1.1.1.0.1.1 i (omega (arith, many-vars))).1 in
-      sym (length-map (var_at t i).ids _) ∙ v.1.1.1.1.0.1.0.1
+      let v = (element (row var_type.the_type).own_val no_var t.vars _ good.1.1.1.1.1.1.1.1.1.1.1.1.0.1.1 i (omega (arith, many-vars))).1 in
+      v.1.1.1.1.0.1.0.1
 
   code-var : (i : ℕ) → i < 64 → var_in_fields (var_at t i) ≡ true
   code-var i h =
-      let v = (element _ _ _ no_var t.vars _ good.1.1.1.1.1.1.1.1.1.1.1.1.0.1.1 i (omega (arith, many-vars))).1 in
+      let v = (element (row var_type.the_type).own_val no_var t.vars _ good.1.1.1.1.1.1.1.1.1.1.1.1.0.1.1 i (omega (arith, many-vars))).1 in
       var-fits (var_at t i) v.1.1.1.0.1 v.1.1.1.1.1.0.1 v.1.1.1.1.1.1.0.1 v.1.1.1.1.1.1.1.0.1 v.1.1.1.1.1.1.1.1.0.1
-      (λ k l. (element _ _ _ 0 (var_at t i).ids _ v.1.1.1.1.0.1.1 k (omega (arith, code-ids i h))).1.1)
+      (λ k l. (element u32.own_val 0 (var_at t i).ids _ v.1.1.1.1.0.1.1 k (omega (arith, code-ids i h))).1.1)
 
   code_fits : tables_in_fields t ≡ true
   unfolding tables_in_fields

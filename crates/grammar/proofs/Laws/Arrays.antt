@@ -9,9 +9,9 @@ use denote.Array.{each}
 use denote.Shadow.{shadow}
 
 -- what holds of an element of an array that the code has
-pub element : {c : Type 0} (d : Type 0) (f : d → List Val → Fml) (h : c → d) (z : c) (xs : List c) (us : List Val) → shadow (each d f (map h xs) us) → (i : ℕ) → i < length xs
-    → (u : Val) × shadow (f (h (get_or xs i z)) (u ∷ []))
-element d f h z [] us s i l = absurd (omega arith)
-element d f h z (x ∷ xs) [] s i l = absurd s
-element d f h z (x ∷ xs) (u ∷ us) s zero l = (u, s.0)
-element d f h z (x ∷ xs) (u ∷ us) s (suc i) l = element d f h z xs us s.1 i (omega arith)
+pub element : {c : Type 0} (f : c → List Val → Fml) (z : c) (xs : List c) (us : List Val) → shadow (each c f xs us) → (i : ℕ) → i < length xs
+    → (u : Val) × shadow (f (get_or xs i z) (u ∷ []))
+element f z [] us s i l = absurd (omega arith)
+element f z (x ∷ xs) [] s i l = absurd s
+element f z (x ∷ xs) (u ∷ us) s zero l = (u, s.0)
+element f z (x ∷ xs) (u ∷ us) s (suc i) l = element f z xs us s.1 i (omega arith)

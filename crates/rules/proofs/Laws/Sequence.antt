@@ -17,12 +17,12 @@ module _ {A : Type 0} where
   none-same (none s) = refl
 
   -- items that are so where a condition holds, and it does
-  pub sequence-where : {s u : List ℕ} {xs : List A} (P : A → Type 0) (R : List ℕ → List ℕ → A → Type 0) → Sequence (λ s u x. P x → R s u x) s u xs → EachIs P xs → Sequence R s u xs
+  pub sequence-where : (P : A → Type 0) (R : List ℕ → List ℕ → A → Type 0) {s u : List ℕ} {xs : List A} → Sequence (λ s u x. P x → R s u x) s u xs → EachIs P xs → Sequence R s u xs
   sequence-where P R (none s) a = none s
   sequence-where P R (more h q) a = more (h a.0) (sequence-where P R q a.1)
 
   -- items seen through a function
-  pub sequence-map : {B : Type 0} {s u : List ℕ} {xs : List A} (g : A → B) (R : List ℕ → List ℕ → B → Type 0) → Sequence (λ s u x. R s u (g x)) s u xs → Sequence R s u (map g xs)
+  pub sequence-map : {B : Type 0} (g : A → B) (R : List ℕ → List ℕ → B → Type 0) {s u : List ℕ} {xs : List A} → Sequence (λ s u x. R s u (g x)) s u xs → Sequence R s u (map g xs)
   sequence-map g R (none s) = none s
   sequence-map g R (more h q) = more h (sequence-map g R q)
 

@@ -1,0 +1,16 @@
+use Prim.Native.Nat.{◌+◌, ◌-◌, ◌≤◌}
+use native.Mathlib.Omega.{arith}
+use mathlib.Core.Path.{◌≡◌, refl, ap, ◌∙◌}
+use lib.ListN.{length}
+use borrow.Author.Rules.{rules}
+use Rattle.bigendian.specs.Lists.{tab}
+use Rattle.decode.proofs.Laws.Filled.{Filled, filled_none, filled_more, filled-all}
+use Rattle.crossing.specs.Words.{word_at}
+use Rattle.crossing.proofs.Laws.Fits.{id-in}
+use Rattle.crossing.proofs.load.ids_of.Given as goal
+
+abbrev pub invariant-loop-k : goal.invariant-loop-k
+invariant-loop-k l = (l.k ≤ 8) × (l.at + 8 ≤ length l.words) × (length l.initial.ids ≡ 8) × (length l.ids ≡ 8) × Filled (λ j. word_at l.words (l.at + j)) l.initial.ids l.ids l.k
+
+abbrev pub decreases-loop-k : goal.decreases-loop-k
+decreases-loop-k l = 8 - l.k

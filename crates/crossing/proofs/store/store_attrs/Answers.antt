@@ -1,0 +1,17 @@
+use Prim.Native.Nat.{◌-◌}
+use mathlib.Core.Path.{◌≡◌}
+use lib.ListN.{length, get_or}
+use borrow.Author.Rules.{rules}
+use Rattle.grammar.specs.Tables.{no_attr}
+use Rattle.crossing.specs.Words.{attr_words}
+use Rattle.crossing.proofs.Laws.Joined.{wide-attr, Rows, rows_none, rows_all, rows_more}
+use Rattle.crossing.proofs.store.store_attrs.Goals as goal
+
+pub loop-i-init : goal.loop-i-init
+loop-i-init c = (search rules, rows_none _ _ c.requires)
+
+pub loop-i-preserved : goal.loop-i-preserved
+loop-i-preserved c = (search rules, rows_more (λ k. wide-attr _) c.loop-i.invariant.1 (search rules) c.store_attr.ensures)
+
+pub returns : goal.returns
+returns c = rows_all (λ k. wide-attr _) c.loop-i.invariant.1 (search rules)

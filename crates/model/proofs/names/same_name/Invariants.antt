@@ -1,0 +1,14 @@
+use borrow.Author.Rules.{rules}
+use Rattle.model.proofs.Laws.Model.{same-all, same_length, same_not}
+use lib.ListN.{get_or}
+use borrow.Author.Count.{below_none, below_more}
+use mathlib.Core.Path.{◌≡◌, sym, ◌∙◌}
+use native.Mathlib.Omega.{arith}
+use Prim.Native.Nat.{ℕ, ◌+◌, ◌-◌, ◌≤◌, ◌<◌}
+use Rattle.model.proofs.names.same_name.Given as goal
+
+abbrev pub invariant-loop-i : goal.invariant-loop-i
+invariant-loop-i l = (l.i ≤ l.achars) × (l.achars ≡ l.bchars) × ((k : ℕ) → k < l.i → get_or l.s (l.a + k) 0 ≡ get_or l.s (l.b + k) 0)
+
+abbrev pub decreases-loop-i : goal.decreases-loop-i
+decreases-loop-i l = l.achars - l.i
