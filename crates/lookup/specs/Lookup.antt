@@ -1,6 +1,6 @@
 -- Name lookup (01, What is taken from the crate: "lookup gives the first number for a name, or the name for a number"; Answer numbers, 23 and 16).
 use Rattle.std.specs.Prelude.{ℕ, ◌+◌, Bool, ◌&&◌, ◌≡◌, List, length, ltb, leb, eqb}
-use Rattle.std.specs.Borrow.{Bor, MutBor}
+use Rattle.std.specs.Borrow.{Bor}
 use Rattle.cdf.specs.Step.{Step, got, stop, need, given_or}
 use Rattle.cdf.specs.Below.{all_below, first_where}
 use Rattle.items.specs.Name.{part, same_bytes}
@@ -49,5 +49,5 @@ pub record IsPart (b : Bor (List ℕ)) (span : Span) (r : Bor (List ℕ)) : Type
   pub bytes : r.now ≡ part b.now span.at span.chars
 
 -- the contract of the lookup of a name: "its refusals hand back the empty part", which is the one at the buffer's start
-abbrev pub IsName : MutBor (List ℕ) → Tables → ℕ → MutBor (List ℕ) → Type 0
+abbrev pub IsName : Bor (List ℕ) → Tables → ℕ → Bor (List ℕ) → Type 0
 IsName b t i r = IsPart b (given_or (record { at = 0; chars = 0 }) (name_of b.now t i)) r

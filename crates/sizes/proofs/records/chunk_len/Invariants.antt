@@ -1,0 +1,14 @@
+use borrow.Author.Rules.{rules}
+use Rattle.sizes.proofs.Laws.Records.{outer-within, first_lengths, lengths_none, lengths-more, lengths-all}
+use Rattle.sizes.specs.Records.{outer}
+use Rattle.sizes.specs.Inner.Sizes.{capped}
+use mathlib.Core.Path.{◌≡◌, ◌∙◌}
+use native.Mathlib.Omega.{arith}
+use Prim.Native.Nat.{◌-◌, ◌≤◌}
+use Rattle.sizes.proofs.records.chunk_len.Given as goal
+
+abbrev pub invariant-loop-k : goal.invariant-loop-k
+invariant-loop-k l = (outer l.dims l.v ≤ l.k) × (l.k ≤ l.v.rank) × (l.product ≡ capped (first_lengths l.dims l.v (l.k - outer l.dims l.v)))
+
+abbrev pub decreases-loop-k : goal.decreases-loop-k
+decreases-loop-k l = l.v.rank - l.k
