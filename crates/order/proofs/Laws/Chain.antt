@@ -2,20 +2,20 @@
 use Prim.Native.Nat.{ℕ, ◌+◌, ◌-◌, ◌≤◌, ◌<◌}
 use native.Mathlib.Omega.{arith}
 use mathlib.Core.Path.{◌≡◌, sym, ◌∙◌}
-use mathlib.Core.Bool.{Bool, true, false, not, ◌&&◌, and-true, and-false, false≢true}
+use mathlib.Core.Bool.{Bool, true, false, ◌&&◌, and-true, and-false, false≢true}
 use mathlib.Core.Logic.{⊎_elim}
 use lib.Dec.{leb, eqb}
-use borrow.Author.Tests.{not-true, not-false, le-leb, lt-leb, ne_eqb}
+use borrow.Author.Tests.{le-leb, lt-leb, ne_eqb}
 use Rattle.cdf.specs.Magic.{both_versions, admits}
 use Rattle.cdf.specs.Below.{all_below}
 use Rattle.cdf.proofs.Laws.Below.{order, one-fails, all_hold}
 
 -- what a call answered, by the test of its answer
-pub fails : {r x : Bool} → r ≡ x → not r ≡ true → x ≡ false
-fails e h = sym e ∙ not-true _ h
+pub fails : {r x : Bool} → r ≡ x → r ≡ false → x ≡ false
+fails e h = sym e ∙ h
 
-pub holds : {r x : Bool} → r ≡ x → not r ≡ false → x ≡ true
-holds e h = sym e ∙ not-false _ h
+pub holds : {r x : Bool} → r ≡ x → r ≡ true → x ≡ true
+holds e h = sym e ∙ h
 
 -- the first test fails, or it holds and what follows it answers
 pub ended : {a : Bool} (b : Bool) → a ≡ false → false ≡ (a && b)

@@ -9,6 +9,7 @@ use mir.Val.{Val}
 use denote.Shadow.{shadow}
 use denote.Struct.Declared.{row}
 use Rattle.grammar.specs.contracts.tables.Tables.{the_type}
+use Rattle.grammar.specs.contracts.tables.Var as var_type
 use Rattle.grammar.proofs.Laws.Arrays.{element}
 use Rattle.grammar.specs.Tables.{no_dim, no_attr, no_var, dim_at, attr_at, var_at}
 use Rattle.grammar.specs.Meaning.{Dimension, Attribute, Variable, dimension, attribute, variable, contents, item_of, held}
@@ -30,12 +31,12 @@ full-rows t vs good =
     let g = good.1.1.1.1.1.1.1 in
     let h = g.1.1.1 in
     let v = h.1.1.0 in
-    let rows : length t.vars ≡ 64 = sym (length-map t.vars _) ∙ v.1.0.1 in
+    let rows : length t.vars ≡ 64 = v.1.0.1 in
     record {
-      dims = sym (length-map t.dims _) ∙ g.0.1.0.1;
-      attrs = sym (length-map t.attrs _) ∙ h.0.1.0.1;
+      dims = g.0.1.0.1;
+      attrs = h.0.1.0.1;
       vars = rows;
-      ids = λ i _ l. sym (length-map (var_at t i).ids _) ∙ (element _ _ _ no_var t.vars _ v.1.1 i (omega arith)).1.1.1.1.1.0.1.0.1;
+      ids = λ i _ l. (element (row var_type.the_type).own_val no_var t.vars _ v.1.1 i (omega arith)).1.1.1.1.1.0.1.0.1;
     }
 
 -- items seen through a function

@@ -1,0 +1,25 @@
+use Prim.Native.Nat.{◌-◌, ◌≤◌}
+use native.Mathlib.Omega.{arith}
+use mathlib.Core.Path.{◌≡◌, ◌∙◌}
+use mathlib.Core.Logic.{⊎_elim}
+use Rattle.sizes.proofs.Laws.Records.{ids-below}
+use Rattle.guest32.proofs.Laws.Guest.{first_upto, upto-none, upto-record, upto-fixed, upto_all}
+use borrow.Author.Rules.{rules}
+use Rattle.guest32.proofs.guest.first_begin.Goals as goal
+
+pub loop-i-init : goal.loop-i-init
+loop-i-init c = (omega arith, upto-none c.args.t)
+
+pub is_record-requires : goal.is_record-requires
+is_record-requires c = let p = c.requires in let inside = c.loop-i-test.true in ((p.0.rows _ inside).rank, ids-below _ p.1 _ inside p.0.dims)
+
+pub loop-i-preserved : goal.loop-i-preserved
+loop-i-preserved c =
+    let t = c.args.t in
+    let i = c.loop-i.i in
+    let is = c.is_record.ensures in
+    let inv = c.loop-i.invariant.1 in
+    (omega arith, ⊎_elim (λ w. w.3 ∙ upto-record t i is w.0.taken inv w.2.ensures) (λ w. w.1 ∙ upto-fixed t i is w.0.left inv) c.if-is_record.branch)
+
+pub returns : goal.returns
+returns c = upto_all _ (omega arith) c.loop-i.invariant.1

@@ -1,0 +1,7 @@
+use Rattle.header.specs.Header.{refusal}
+use borrow.Author.Rules.{rules}
+use Rattle.header.proofs.reader.refused.Goals as goal
+
+pub returns : goal.returns
+unfolding refusal
+returns c = rw c.blank.ensures
