@@ -6,6 +6,7 @@ use Rattle.sizes.proofs.Laws.Records.{ids-below}
 use Rattle.guest32.proofs.Laws.Guest.{first_upto, upto-none, upto-record, upto-fixed, upto_all}
 use borrow.Author.Rules.{rules}
 use Rattle.guest32.proofs.guest.first_begin.Goals as goal
+use Rattle.guest32.proofs.guest.first_begin.Goals.{then-is_record, else-is_record}
 
 pub loop-i-init : goal.loop-i-init
 loop-i-init c = (omega arith, upto-none c.args.t)
@@ -19,7 +20,7 @@ loop-i-preserved c =
     let i = c.loop-i.i in
     let is = c.is_record.ensures in
     let inv = c.loop-i.invariant.1 in
-    (omega arith, ⊎_elim (λ w. w.3 ∙ upto-record t i is w.0.taken inv w.2.ensures) (λ w. w.1 ∙ upto-fixed t i is w.0.left inv) c.if-is_record.branch)
+    (omega arith, elim c.if-is_record.branch [ then-is_record w ↦ w.first-is ∙ upto-record t i is w.if-is_record.true inv w.smaller-first.ensures | else-is_record w ↦ w.first-is ∙ upto-fixed t i is w.if-is_record.false inv ])
 
 pub returns : goal.returns
 returns c = upto_all _ (omega arith) c.loop-i.invariant.1

@@ -1,0 +1,22 @@
+use mathlib.Core.Path.{sym, ap, ◌∙◌}
+use native.Mathlib.Omega.{arith}
+use Rattle.decode.specs.Decoded.{raw}
+use Rattle.records.specs.Inner.Stretch.{of_stretched}
+use Rattle.records.proofs.Laws.Filled.{whole-of-fits, byte-decoder-asks, whole-stop, whole-got}
+use borrow.Author.Rules.{rules}
+use Rattle.records.proofs.whole.read_whole_u8.Goals as goal
+
+pub slice_bounds-records_u8-count : goal.slice_bounds-records_u8-count
+slice_bounds-records_u8-count c = let h = whole-of-fits 2 _ _ _ _ (ap of_stretched (sym c.in-Got.is) ∙ c.whole_of.ensures) in h.inside
+
+pub slice_bounds-records_u8-start : goal.slice_bounds-records_u8-start
+slice_bounds-records_u8-start c = let h = whole-of-fits 2 _ _ _ _ (ap of_stretched (sym c.in-Got.is) ∙ c.whole_of.ensures) in omega (arith, h.inside)
+
+pub records_u8-requires : goal.records_u8-requires
+records_u8-requires c = let asked = byte-decoder-asks c.args.s.now (whole-of-fits 2 _ _ _ _ (ap of_stretched (sym c.in-Got.is) ∙ c.whole_of.ensures)) in record { chunk_in_bounds = asked.0; by_index = asked.1 }
+
+pub returns-in-Refused : goal.returns-in-Refused
+returns-in-Refused c = whole-stop raw 2 _ _ _ _ (ap of_stretched (sym c.in-Refused.is) ∙ c.whole_of.ensures)
+
+pub returns-in-Got : goal.returns-in-Got
+returns-in-Got c = whole-got raw 2 _ _ _ _ (ap of_stretched (sym c.in-Got.is) ∙ c.whole_of.ensures) c.records_u8.ensures

@@ -1,0 +1,16 @@
+use borrow.Author.Rules.{rules}
+use native.Mathlib.Omega.{arith}
+use lib.Dec.{lit<}
+use Rattle.writer.specs.Inner.Parts.{dims_out}
+use Rattle.writer.proofs.Laws.Put.{length-start}
+use Rattle.writer.proofs.Laws.Rows.{put-list, length-list}
+use Rattle.writer.proofs.rows.put_dims.Goals as goal
+
+pub put_start-first-requires : goal.put_start-first-requires
+put_start-first-requires c = (lit< tt, let l = length-list 10 c.args.t.ndims (dims_out c.args.text.now c.args.t) in omega arith)
+
+pub put_dim_rows-requires : goal.put_dim_rows-requires
+put_dim_rows-requires c = (c.requires.0, let l = length-list 10 c.args.t.ndims (dims_out c.args.text.now c.args.t) in let k = length-start 10 c.args.t.ndims in let p = c.put_start-first.ensures.place in omega arith)
+
+pub returns : goal.returns
+returns c = put-list _ _ _ (omega arith) c.put_start-first.ensures c.put_dim_rows.ensures
