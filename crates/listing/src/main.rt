@@ -3,7 +3,10 @@
 #![tactic(auto)]
 
 ghost use Rattle.std.specs.Prelude.{List, [], ℕ, ◌≤◌, length, take};
+ghost use Rattle.io.specs.Counts.{IsPrefixLen};
 ghost use Rattle.listing.specs.Listing.{Turns};
+
+use std::io::{Read, Stdin};
 
 use crate::turn::{Turned, finish, put_heading, turn};
 
@@ -28,8 +31,18 @@ fn list_block(block: &[u8], line: &mut [u8], held: usize, out: &mut [u8]) -> usi
     chars
 }
 
+// Reads once, and answers how many bytes there are at the start of the block; a read that fails ends the input.
+fn read_block(input: &mut Stdin, block: &mut [u8]) -> usize
+    ensures { IsPrefixLen result block.new }
+{
+    match input.read(block) {
+        Ok(n) => n,
+        Err(_) => 0,
+    }
+}
+
 // Lists standard input, but for a last line without a line end, of which it answers how much is held.
-fn list(block: &mut [u8], line: &mut [u8], out: &mut [u8]) -> usize
+fn list(input: &mut Stdin, block: &mut [u8], line: &mut [u8], out: &mut [u8]) -> usize
     requires { (16385 ≤ length line.old) × (84 ≤ length out.old) }
     ensures by_index { (input printed : List ℕ) × Turns [] input printed (take result line.new) }
     ensures upper_bound { result ≤ 16385 }
@@ -38,7 +51,7 @@ fn list(block: &mut [u8], line: &mut [u8], out: &mut [u8]) -> usize
     // nothing says that the input ends: the reads count down from a number that no run uses up
     let mut reads = u64::MAX;
     while reads > 0 {
-        let n = io::count(libc::read(0, block), block);
+        let n = read_block(input, block);
         if n == 0 {
             return held;
         }
@@ -48,13 +61,14 @@ fn list(block: &mut [u8], line: &mut [u8], out: &mut [u8]) -> usize
     held
 }
 
-fn main() {
+fn main(rt: HostRuntime) {
     let mut block = [0u8; 65536];
     let mut line = [0u8; 16385];
     let mut out = [0u8; 4096];
     let start = put_heading(&mut out);
     io::write_all(1, &out[..start]);
-    let held = list(&mut block, &mut line, &mut out);
+    let mut input = rt.stdin();
+    let held = list(&mut input, &mut block, &mut line, &mut out);
     let end = finish(&line, held, &mut out);
     io::write_all(1, &out[..end]);
 }

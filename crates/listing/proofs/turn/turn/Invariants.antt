@@ -1,0 +1,20 @@
+use borrow.Author.Rules.{rules}
+use native.Mathlib.Omega.{arith}
+use mathlib.Core.Path.{◌≡◌, refl, sym}
+use mathlib.Core.Logic.{⊎_elim}
+use native.Mathlib.Nat.{eq-or-lt_of_le}
+use lib.ListN.{length, take, drop}
+use lib.Seq.{length-take-le}
+use Prim.Native.Nat.{◌-◌, ◌≤◌, ◌<◌}
+use Rattle.listing.specs.Listing.{Turns}
+use Rattle.listing.proofs.Laws.Listing.{turns-start, turn-open, turn-closed}
+use Rattle.listing.proofs.turn.turn.Given as goal
+
+abbrev pub invariant-loop-next : goal.invariant-loop-next
+invariant-loop-next l =
+    (l.at ≤ l.next) × (l.next ≤ length l.block) × (length l.line ≡ length l.initial.line) × (length l.out ≡ length l.initial.out) × (l.chars ≤ 16385) × (l.output ≤ length l.out)
+    × (l.next ≡ l.at → l.output ≡ 0)
+    × Turns (take l.held l.initial.line) (take (l.next - l.at) (drop l.at l.block)) (take l.output l.out) (take l.chars l.line)
+
+abbrev pub decreases-loop-next : goal.decreases-loop-next
+decreases-loop-next l = length l.block - l.next
