@@ -10,7 +10,6 @@ use found::variable::{Sought, Spread};
 use records::whole::{read_whole_f32, read_whole_f64};
 
 // All floats of a fixed variable that has `count` of them from the file's position `begin` on; `window` starts at `start`.
-#[unsafe(no_mangle)]
 pub extern "C" fn fungal_values_f32(
     begin: u64,
     count: u64,
@@ -32,7 +31,6 @@ pub extern "C" fn fungal_values_f32(
 }
 
 // The same of doubles.
-#[unsafe(no_mangle)]
 pub extern "C" fn fungal_values_f64(
     begin: u64,
     count: u64,

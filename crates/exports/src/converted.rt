@@ -5,7 +5,6 @@ ghost use Rattle.outputs.specs.Outputs.{TellsConverted};
 
 use convert::convert::{narrow, widen};
 
-#[unsafe(no_mangle)]
 pub extern "C" fn fungal_widen(
     prefix: &[u8],
     size: u64,
@@ -24,7 +23,6 @@ pub extern "C" fn fungal_widen(
     0
 }
 
-#[unsafe(no_mangle)]
 pub extern "C" fn fungal_narrow(
     prefix: &[u8],
     size: u64,

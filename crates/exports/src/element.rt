@@ -7,7 +7,6 @@ use crate::variable::taken;
 use reads::bits::{Bits, Told, read_bits};
 
 // Element `e` of record `r`: the code of its type, and its bits.
-#[unsafe(no_mangle)]
 pub extern "C" fn fungal_read_element(
     var: &[u64],
     window: &[u8],

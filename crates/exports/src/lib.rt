@@ -2,12 +2,12 @@
 // as a pointer. Each answers 0 or the number of a refusal, and a refusal writes nothing.
 #![tactic(auto)]
 
-mod tables; // tables.rt: the header reader
-mod names; // names.rt: names and numbers of variables
-mod variable; // variable.rt: a variable, for a caller to keep between reads
-mod element; // element.rt: one element
-mod record; // record.rt: one record
-mod whole; // whole.rt: all records
-mod written; // written.rt: the header writer
-mod converted; // converted.rt: widening and narrowing
-mod guest; // guest.rt: what a 32-bit build of netcdf3 makes of a file
+pub mod tables; // tables.rt: the header reader
+pub mod names; // names.rt: names and numbers of variables
+pub mod variable; // variable.rt: a variable, for a caller to keep between reads
+pub mod element; // element.rt: one element
+pub mod record; // record.rt: one record
+pub mod whole; // whole.rt: all records
+pub mod written; // written.rt: the header writer
+pub mod converted; // converted.rt: widening and narrowing
+pub mod guest; // guest.rt: what a 32-bit build of netcdf3 makes of a file

@@ -7,7 +7,6 @@ use crossing::load::load_tables;
 use lookup::names::{Found, find_var, var_name_answer};
 
 // The number of the first variable of a name.
-#[unsafe(no_mangle)]
 pub extern "C" fn fungal_find_var(tables: &[u64], text: &[u8], name: &[u8], number: &mut u64) -> u8
     ensures { TellsNumber (of_tables tables.now (λ t. find_var text.now t name.now)) result number.old number.new }
 {
@@ -25,7 +24,6 @@ pub extern "C" fn fungal_find_var(tables: &[u64], text: &[u8], name: &[u8], numb
 }
 
 // The name of the variable `i`.
-#[unsafe(no_mangle)]
 pub extern "C" fn fungal_var_name(
     tables: &[u64],
     text: &[u8],

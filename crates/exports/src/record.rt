@@ -10,7 +10,6 @@ use records::record::{
     read_record_u8,
 };
 
-#[unsafe(no_mangle)]
 pub extern "C" fn fungal_read_record_i8(
     var: &[u64],
     window: &[u8],
@@ -23,7 +22,6 @@ pub extern "C" fn fungal_read_record_i8(
     read_record_i8(taken(var), window, start, r, out)
 }
 
-#[unsafe(no_mangle)]
 pub extern "C" fn fungal_read_record_u8(
     var: &[u64],
     window: &[u8],
@@ -36,7 +34,6 @@ pub extern "C" fn fungal_read_record_u8(
     read_record_u8(taken(var), window, start, r, out)
 }
 
-#[unsafe(no_mangle)]
 pub extern "C" fn fungal_read_record_i16(
     var: &[u64],
     window: &[u8],
@@ -49,7 +46,6 @@ pub extern "C" fn fungal_read_record_i16(
     read_record_i16(taken(var), window, start, r, out)
 }
 
-#[unsafe(no_mangle)]
 pub extern "C" fn fungal_read_record_i32(
     var: &[u64],
     window: &[u8],
@@ -62,7 +58,6 @@ pub extern "C" fn fungal_read_record_i32(
     read_record_i32(taken(var), window, start, r, out)
 }
 
-#[unsafe(no_mangle)]
 pub extern "C" fn fungal_read_record_f32(
     var: &[u64],
     window: &[u8],
@@ -75,7 +70,6 @@ pub extern "C" fn fungal_read_record_f32(
     read_record_f32_bits(taken(var), window, start, r, out)
 }
 
-#[unsafe(no_mangle)]
 pub extern "C" fn fungal_read_record_f64(
     var: &[u64],
     window: &[u8],

@@ -9,7 +9,6 @@ use crossing::store::{WORDS, store_tables};
 use header::reader::read_header;
 
 // How many words the tables take.
-#[unsafe(no_mangle)]
 pub extern "C" fn fungal_tables_words() -> u64
     ensures { result ≡ 1768 }
 {
@@ -27,7 +26,6 @@ fn admitted(versions: u8) -> Admitted
 }
 
 // Puts down the tables and the header's end. The place of a refusal: `fungal_header_place`.
-#[unsafe(no_mangle)]
 pub extern "C" fn fungal_read_header(
     prefix: &[u8],
     size: u64,
@@ -50,7 +48,6 @@ pub extern "C" fn fungal_read_header(
 }
 
 // The place that belongs to the number of `fungal_read_header`; 0 where it has none.
-#[unsafe(no_mangle)]
 pub extern "C" fn fungal_header_place(prefix: &[u8], size: u64, versions: u8) -> u64
     ensures { result ≡ (read_header prefix.now size (admitted versions)).place }
 {

@@ -7,7 +7,6 @@ use crossing::load::load_tables;
 use writer::header::write_header;
 
 // Writes the header of tables whose names and values stand in `text`, and tells its length.
-#[unsafe(no_mangle)]
 pub extern "C" fn fungal_write_header(
     tables: &[u64],
     text: &[u8],

@@ -1,0 +1,17 @@
+// The header writer.
+ghost use Rattle.writer.specs.Writes.{write_header};
+ghost use Rattle.outputs.specs.Outputs.{TellsList};
+ghost use Rattle.exports.specs.Reader.{of_tables};
+
+// Writes the header of tables whose names and values stand in `text`, and tells its length.
+#[unsafe(no_mangle)]
+pub extern "C" fn fungal_write_header(
+    tables: &[u64],
+    text: &[u8],
+    out: &mut [u8],
+    length: &mut u64,
+) -> u8
+    ensures { TellsList (of_tables tables.now (λ t. write_header text.now t out.old)) result out.old out.new length.old length.new }
+{
+    exports::written::fungal_write_header(tables, text, out, length)
+}

@@ -1,0 +1,10 @@
+use borrow.Author.Rules.{rules}
+use native.Mathlib.Omega.{arith}
+use mathlib.Core.Path.{◌≡◌, sym}
+use lib.ListN.{length}
+use lib.Seq.{length-take-le}
+use Prim.Native.Nat.{◌-◌, ◌≤◌}
+use Rattle.leaves.proofs.decode.Goals as goal
+
+pub returns : goal.returns
+returns c = ((omega arith, sym (length-take-le _ _ (omega arith))), omega arith)
