@@ -10,13 +10,7 @@ use found::variable::{Sought, Spread};
 use records::whole::{read_whole_f32, read_whole_f64};
 
 // All floats of a fixed variable that has `count` of them from the file's position `begin` on; `window` starts at `start`.
-pub extern "C" fn fungal_values_f32(
-    begin: u64,
-    count: u64,
-    window: &[u8],
-    start: u64,
-    out: &mut [f32],
-) -> u8
+pub fn fungal_values_f32(begin: u64, count: u64, window: &[u8], start: u64, out: &mut [f32]) -> u8
     ensures { Leaves out.old (whole_from float 5 (got (record { begin = begin; records = 1; step = 0; chunk = count; width = 4; code = 5 }) 0) window.now start out.old) result out.new }
 {
     let floats = Spread {
@@ -31,13 +25,7 @@ pub extern "C" fn fungal_values_f32(
 }
 
 // The same of doubles.
-pub extern "C" fn fungal_values_f64(
-    begin: u64,
-    count: u64,
-    window: &[u8],
-    start: u64,
-    out: &mut [f64],
-) -> u8
+pub fn fungal_values_f64(begin: u64, count: u64, window: &[u8], start: u64, out: &mut [f64]) -> u8
     ensures { Leaves out.old (whole_from double 6 (got (record { begin = begin; records = 1; step = 0; chunk = count; width = 8; code = 6 }) 0) window.now start out.old) result out.new }
 {
     let doubles = Spread {

@@ -5,7 +5,7 @@ ghost use Rattle.outputs.specs.Outputs.{TellsConverted};
 
 use convert::convert::{narrow, widen};
 
-pub extern "C" fn fungal_widen(
+pub fn fungal_widen(
     prefix: &[u8],
     size: u64,
     out: &mut [u8],
@@ -23,7 +23,7 @@ pub extern "C" fn fungal_widen(
     0
 }
 
-pub extern "C" fn fungal_narrow(
+pub fn fungal_narrow(
     prefix: &[u8],
     size: u64,
     out: &mut [u8],

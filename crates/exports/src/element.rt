@@ -7,7 +7,7 @@ use crate::variable::taken;
 use reads::bits::{Bits, Told, read_bits};
 
 // Element `e` of record `r`: the code of its type, and its bits.
-pub extern "C" fn fungal_read_element(
+pub fn fungal_read_element(
     var: &[u64],
     window: &[u8],
     start: u64,

@@ -7,7 +7,7 @@ use crossing::load::load_tables;
 use lookup::names::{Found, find_var, var_name_answer};
 
 // The number of the first variable of a name.
-pub extern "C" fn fungal_find_var(tables: &[u64], text: &[u8], name: &[u8], number: &mut u64) -> u8
+pub fn fungal_find_var(tables: &[u64], text: &[u8], name: &[u8], number: &mut u64) -> u8
     ensures { TellsNumber (of_tables tables.now (λ t. find_var text.now t name.now)) result number.old number.new }
 {
     let loaded = load_tables(tables);
@@ -24,13 +24,7 @@ pub extern "C" fn fungal_find_var(tables: &[u64], text: &[u8], name: &[u8], numb
 }
 
 // The name of the variable `i`.
-pub extern "C" fn fungal_var_name(
-    tables: &[u64],
-    text: &[u8],
-    i: u64,
-    at: &mut u64,
-    chars: &mut u64,
-) -> u8
+pub fn fungal_var_name(tables: &[u64], text: &[u8], i: u64, at: &mut u64, chars: &mut u64) -> u8
     ensures { TellsName (of_tables tables.now (λ t. name_of text.now t i)) result at.old at.new chars.old chars.new }
 {
     let loaded = load_tables(tables);

@@ -9,7 +9,7 @@ use crossing::store::{WORDS, store_tables};
 use header::reader::read_header;
 
 // How many words the tables take.
-pub extern "C" fn fungal_tables_words() -> u64
+pub fn fungal_tables_words() -> u64
     ensures { result ≡ 1768 }
 {
     WORDS as u64
@@ -26,7 +26,7 @@ fn admitted(versions: u8) -> Admitted
 }
 
 // Puts down the tables and the header's end. The place of a refusal: `fungal_header_place`.
-pub extern "C" fn fungal_read_header(
+pub fn fungal_read_header(
     prefix: &[u8],
     size: u64,
     versions: u8,
@@ -48,7 +48,7 @@ pub extern "C" fn fungal_read_header(
 }
 
 // The place that belongs to the number of `fungal_read_header`; 0 where it has none.
-pub extern "C" fn fungal_header_place(prefix: &[u8], size: u64, versions: u8) -> u64
+pub fn fungal_header_place(prefix: &[u8], size: u64, versions: u8) -> u64
     ensures { result ≡ (read_header prefix.now size (admitted versions)).place }
 {
     let h = read_header(prefix, size, admitted(versions));

@@ -12,7 +12,7 @@ use items::types::DataType;
 // How many words a variable takes.
 const WORDS: usize = 5;
 
-pub extern "C" fn fungal_variable_words() -> u64
+pub fn fungal_variable_words() -> u64
     ensures { result ≡ 5 }
 {
     WORDS as u64
@@ -33,7 +33,7 @@ fn put(v: Spread, out: &mut [u64]) -> u8
 }
 
 // Finds the variable `i` in the tables and puts down its numbers, for reads of it.
-pub extern "C" fn fungal_place_var(tables: &[u64], i: u64, var: &mut [u64]) -> u8
+pub fn fungal_place_var(tables: &[u64], i: u64, var: &mut [u64]) -> u8
     ensures { Leaves var.old (of_tables tables.now (λ t. bind (sought t i) (λ v _. placed var.old v))) result var.new }
 {
     let loaded = load_tables(tables);

@@ -7,12 +7,7 @@ use crossing::load::load_tables;
 use writer::header::write_header;
 
 // Writes the header of tables whose names and values stand in `text`, and tells its length.
-pub extern "C" fn fungal_write_header(
-    tables: &[u64],
-    text: &[u8],
-    out: &mut [u8],
-    length: &mut u64,
-) -> u8
+pub fn fungal_write_header(tables: &[u64], text: &[u8], out: &mut [u8], length: &mut u64) -> u8
     ensures { TellsList (of_tables tables.now (λ t. write_header text.now t out.old)) result out.old out.new length.old length.new }
 {
     let loaded = load_tables(tables);

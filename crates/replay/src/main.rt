@@ -16,7 +16,7 @@
 // what is expected.
 #![tactic(auto)]
 
-ghost use Rattle.std.specs.Prelude.{◌≤◌, length};
+ghost use Rattle.std.specs.Prelude.{◌≡◌, ◌≤◌, length};
 ghost use Rattle.hexlines.specs.Inner.Cut.{kept};
 
 use crate::converted::show_converted;
@@ -194,8 +194,15 @@ fn lines(text: &[u8], buffer: &mut [u8], file: &mut [u8])
     }
 }
 
+// Room for the text, of which a caller knows the length alone.
+fn room() -> [u8; 524288]
+    ensures { 524288 ≡ length result }
+{
+    [0; 524288]
+}
+
 fn main() {
-    let mut text = [0u8; 524288];
+    let mut text = room();
     let mut buffer = [0u8; 16385];
     let mut file = [0u8; 8192];
     let n = io::read_full(0, &mut text);
