@@ -12,7 +12,7 @@ use Rattle.cdf.specs.Step.{bind, test}
 use Rattle.cdf.specs.Magic.{both_versions}
 use Rattle.cdf.proofs.Laws.Below.{holds_at}
 use Rattle.grammar.specs.Tables.{var_at}
-use Rattle.grammar.specs.Meaning.{Meaning, variable}
+use Rattle.grammar.specs.Meaning.{Meaning}
 use Rattle.grammar.specs.declared.tables.Var.{Var}
 use Rattle.rules.specs.Encode.{encode}
 use Rattle.items.specs.Types.{size_of}

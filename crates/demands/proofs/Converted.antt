@@ -1,5 +1,5 @@
 -- Files that are widened or narrowed: their new tables can be written, and the new file reads.
-use Prim.Native.Nat.{ℕ, ◌+◌, ◌≤◌, ◌<◌}
+use Prim.Native.Nat.{ℕ, ◌≤◌, ◌<◌}
 use native.Mathlib.Omega.{arith}
 use mathlib.Core.Path.{◌≡◌, refl, sym, ap, subst, ◌∙◌}
 use mathlib.Core.Bool.{true}
@@ -12,7 +12,7 @@ use Rattle.cdf.specs.Form.{form}
 use Rattle.cdf.specs.Magic.{both_versions}
 use Rattle.cdf.proofs.Laws.Below.{both, holds_at}
 use Rattle.grammar.specs.Tables.{no_var, var_at}
-use Rattle.grammar.specs.Meaning.{Contents, Meaning, said, contents, held}
+use Rattle.grammar.specs.Meaning.{Contents, Meaning, said, held}
 use Rattle.grammar.specs.declared.tables.Var.{Var}
 use Rattle.rules.specs.Encode.{encode}
 use Rattle.rules.specs.Capacity.{fits}
@@ -20,7 +20,6 @@ use Rattle.rules.specs.Range.{in_range}
 use Rattle.rules.proofs.Laws.Views.{fits-see, fits-tell, range-see, range-tell}
 use Rattle.model.specs.Model.{ids_hold, model_holds}
 use Rattle.sizes.specs.Records.{sizes_hold, ends_hold, max_position}
-use Rattle.bigendian.specs.Number.{be}
 use Rattle.order.specs.Writable.{rows_inside, to_write, count_holds, size_holds, writable}
 use Rattle.order.proofs.Laws.Rows.{FullRows}
 use Rattle.header.specs.Header.{read_header}

@@ -1,5 +1,5 @@
 -- The tables of an accepted header hold what was read.
-use mathlib.Core.Path.{◌≡◌, refl, sym, ap, ◌∙◌}
+use mathlib.Core.Path.{refl, sym, ap, ◌∙◌}
 use Rattle.cdf.proofs.Laws.Step.{got_same, into-got}
 use Rattle.grammar.specs.Tree.{Tree}
 use Rattle.grammar.specs.Tables.{laid}

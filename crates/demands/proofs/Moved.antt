@@ -2,7 +2,7 @@
 use Prim.Native.Nat.{ℕ, zero, suc, ◌+◌, ◌-◌, ◌/◌, ◌%◌, ◌≤◌, ◌<◌, min}
 use native.Mathlib.Omega.{arith}
 use mathlib.Core.Path.{◌≡◌, refl, sym, ap, subst, ◌∙◌}
-use mathlib.Core.Bool.{Bool, true, false, cond, ◌&&◌, not, false≢true}
+use mathlib.Core.Bool.{Bool, true, false, cond, ◌&&◌, false≢true}
 use mathlib.Core.Logic.{◌⊎◌, inl, inr}
 use mathlib.Core.List.{List, [], ◌∷◌, ◌++◌, map}
 use lib.ListN.{length, take, get_or, length-append, length-map}
@@ -16,7 +16,7 @@ use Rattle.cdf.specs.Form.{Form, form}
 use Rattle.cdf.proofs.Laws.Below.{order, both, all_hold, holds_at, none-holds, none-at}
 use Rattle.grammar.specs.Tree.{VarItem}
 use Rattle.grammar.specs.Tables.{no_var, var_at}
-use Rattle.grammar.specs.Meaning.{Attribute, Variable, Contents, said, variable, contents, item_of, held}
+use Rattle.grammar.specs.Meaning.{Attribute, Variable, Contents, variable, contents, item_of, held}
 use Rattle.grammar.specs.declared.tables.Attr.{Attr}
 use Rattle.grammar.specs.declared.tables.Var.{Var}
 use Rattle.grammar.specs.declared.tables.Tables.{Tables}
@@ -30,7 +30,6 @@ use Rattle.rules.proofs.Laws.Sequence.{all_of}
 use Rattle.model.specs.Model.{is_unlimited, dim_names, var_names, attr_names, distinct, names_hold, one_unlimited, ids_hold, model_holds}
 use Rattle.sizes.specs.Records.{smallest, is_record, record_size, sizes_hold, max_position}
 use Rattle.sizes.specs.Count.{has_unlimited, has_records, is_open, first_begin, record_count}
-use Rattle.reads.specs.Reads.{holds}
 use Rattle.order.specs.Writable.{dim_inside, attr_inside, var_inside, rows_inside, to_write, count_holds}
 use Rattle.order.proofs.Laws.Rows.{FullRows}
 use Rattle.convert.specs.Convert.{moved, in_version, moved_var, moved_tables}

@@ -1,16 +1,14 @@
 -- Tables whose rows and names are where they say, and two of them that say the same.
-use Prim.Native.Nat.{ℕ, zero, suc, ◌+◌, ◌-◌, ◌*◌, ◌≤◌, ◌<◌}
+use Prim.Native.Nat.{ℕ, zero, suc, ◌+◌, ◌≤◌, ◌<◌}
 use native.Mathlib.Omega.{arith}
-use mathlib.Core.Path.{◌≡◌, refl, sym, ap, subst, ◌∙◌}
-use mathlib.Core.List.{List, [], ◌∷◌, ◌++◌, map}
+use mathlib.Core.Path.{◌≡◌, refl, sym, ap, ◌∙◌}
+use mathlib.Core.List.{List, [], ◌∷◌, map}
 use lib.ListN.{length, get_or, take, drop, length-map, length-drop}
 use lib.Seq.{get_or-take, get_or-drop, length-take-le}
 use Rattle.items.specs.Name.{part}
 use Rattle.grammar.specs.Tree.{VarItem}
-use Rattle.grammar.specs.Tables.{no_dim, no_attr, no_var, dim_at, attr_at, var_at, id_at}
+use Rattle.grammar.specs.Tables.{no_dim, no_attr, no_var, dim_at, attr_at, var_at}
 use Rattle.grammar.specs.Meaning.{Dimension, Attribute, Variable, Contents, dimension, attribute, variable, contents, item_of, held, said}
-use Rattle.grammar.specs.declared.tables.Dim.{Dim}
-use Rattle.grammar.specs.declared.tables.Attr.{Attr}
 use Rattle.grammar.specs.declared.tables.Var.{Var}
 use Rattle.grammar.specs.declared.tables.Tables.{Tables}
 use Rattle.demands.proofs.Alike.{SameText, AlikeVar, Alike}

@@ -1,14 +1,13 @@
 -- The record count is a function of the bytes and the size, and exact.
 use Prim.Native.Nat.{ℕ, zero, suc, ◌+◌, ◌-◌, ◌*◌, ◌/◌, ◌%◌, ◌≤◌, ◌<◌, min}
 use native.Mathlib.Omega.{arith}
-use native.Mathlib.Nat.{div-add-mod', le_of_suc-le-suc, eq-or-lt_of_le, not-suc-le-zero, min-le_left, min-le_right, min-eq_left, min-eq_right, le_trans, le_antisymm, le_of_lt}
+use native.Mathlib.Nat.{div-add-mod', le_of_suc-le-suc, eq-or-lt_of_le, not-suc-le-zero, min-le_left, min-le_right, min-eq_left, min-eq_right, le_trans, le_of_lt}
 use mathlib.Core.Logic.{⊎_elim}
 use mathlib.Core.Path.{◌≡◌, refl, sym, ap, subst, ◌∙◌}
-use mathlib.Core.Bool.{Bool, true, false, cond, ◌||◌}
+use mathlib.Core.Bool.{Bool, true, false}
 use mathlib.Core.List.{List}
-use lib.Dec.{leb, eqb}
-use borrow.Author.Tests.{leb-true, ltb-true, eqb-true, eq-eqb}
-use Rattle.cdf.specs.Step.{Step, got, stop, need, given_or}
+use borrow.Author.Tests.{leb-true, ltb-true, eqb-true}
+use Rattle.cdf.specs.Step.{got, given_or}
 use Rattle.cdf.specs.Below.{any_below}
 use Rattle.cdf.specs.declared.version.Admitted.{Admitted}
 use Rattle.cdf.proofs.Laws.Below.{order, both, none-at, none-holds, some_holds, first_some}
@@ -19,7 +18,7 @@ use Rattle.grammar.specs.declared.tables.Tables.{Tables}
 use Rattle.grammar.specs.Inner.Within.{Shaped}
 use Rattle.grammar.proofs.Laws.Within.{read-within, within-shaped}
 use Rattle.model.specs.Model.{is_unlimited, ids_hold}
-use Rattle.sizes.specs.Records.{smallest, length_at, is_record, record_size, sizes_hold, max_position}
+use Rattle.sizes.specs.Records.{smallest, is_record, record_size, max_position}
 use Rattle.sizes.specs.Count.{has_unlimited, has_records, is_open, first_begin, record_count}
 use Rattle.sizes.specs.Inner.Sizes.{divided}
 use Rattle.header.specs.declared.reader.Header.{Header}
@@ -27,7 +26,7 @@ use Rattle.model.proofs.Laws.Model.{model-has-ids}
 use Rattle.sizes.proofs.Laws.Records.{begin-in, id_below}
 use Rattle.sizes.proofs.Laws.Count.{records-positive}
 use Rattle.header.proofs.Laws.Accepted.{Came, accepted-came, tree-size}
-use Rattle.demands.specs.RecordCount.{AcceptedTables, CountOfBytes, OpenCount, SmallestBegin}
+use Rattle.demands.specs.RecordCount.{CountOfBytes, OpenCount, SmallestBegin}
 
 pub count-of-bytes : CountOfBytes
 unfolding CountOfBytes

@@ -15,8 +15,7 @@ use Rattle.rules.specs.Encode.{each, list_bytes, name_bytes, dim_bytes, attr_byt
 use Rattle.rules.proofs.Laws.Spelled.{length-spelled}
 use Rattle.order.specs.Writable.{to_write}
 use Rattle.header.specs.Header.{read_header}
-use Rattle.convert.specs.Convert.{in_version, new_end}
-use Rattle.demands.specs.Derived.{AreBytes}
+use Rattle.convert.specs.Convert.{in_version}
 use Rattle.demands.specs.Converted.{FourAVariable}
 use Rattle.demands.proofs.Written.{read-end, read-placed}
 

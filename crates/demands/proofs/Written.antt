@@ -17,7 +17,6 @@ use Rattle.cdf.proofs.Laws.Step.{into-got, by-got, by-true}
 use Rattle.rules.proofs.Laws.Sound.{got-place}
 use Rattle.grammar.specs.Tree.{Tree, attrs_of}
 use Rattle.grammar.specs.Tables.{no_dim, no_attr, zero_var, var_rows, laid, with_count, attr_at, var_at}
-use Rattle.grammar.specs.Grammar.{header}
 use Rattle.grammar.specs.Meaning.{Contents, contents, held, said}
 use Rattle.grammar.specs.Inner.Within.{Within}
 use Rattle.grammar.specs.declared.tables.Tables.{Tables}

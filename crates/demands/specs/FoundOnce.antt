@@ -1,6 +1,6 @@
 -- A variable that is found once and kept (01, Records: the element, record and whole-variable reads of the tables): its reads answer as those of the tables do.
 use Rattle.std.specs.Prelude.{ℕ, ◌≡◌, List}
-use Rattle.cdf.specs.Step.{Step, into}
+use Rattle.cdf.specs.Step.{into}
 use Rattle.grammar.specs.declared.tables.Tables.{Tables}
 use Rattle.found.specs.Sought.{sought}
 use Rattle.reads.specs.Reads.{record_read, record_from, whole_read, whole_from}

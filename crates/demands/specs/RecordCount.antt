@@ -1,7 +1,7 @@
 -- The audit's first question: the record count of an accepted file is a function of its bytes and size, in exact arithmetic; no width of a
 -- machine enters. (Demand 2's division.)
 use Rattle.std.specs.Prelude.{ℕ, ◌+◌, ◌*◌, ◌≤◌, ◌<◌, ◌≡◌, true, List}
-use Rattle.cdf.specs.Step.{Step, got, given_or}
+use Rattle.cdf.specs.Step.{got, given_or}
 use Rattle.cdf.specs.declared.version.Admitted.{Admitted}
 use Rattle.grammar.specs.Tree.{Tree}
 use Rattle.grammar.specs.Tables.{laid, var_at}

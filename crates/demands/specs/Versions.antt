@@ -1,6 +1,6 @@
 -- Demand 3, last sentence: a reader that admits one version, given a size that 01 allows, refuses a prefix that starts with CDF by version
 -- exactly when its fourth byte is another; otherwise it answers as the full reader.
-use Rattle.std.specs.Prelude.{ℕ, ◌≤◌, ◌<◌, ◌≡◌, true, false, ◌⊎◌, List, length, get_or, take, eqb}
+use Rattle.std.specs.Prelude.{ℕ, ◌≤◌, ◌<◌, ◌≡◌, ◌⊎◌, List, length, get_or, take, eqb}
 use Rattle.cdf.specs.Magic.{cdf, both_versions}
 use Rattle.cdf.specs.declared.version.Admitted.{Admitted}
 use Rattle.header.specs.Header.{read_header, refusal}

@@ -1,3 +1,2 @@
 // Theorems alone: specs/ states each demand, proofs/ proves it.
 #![tactic(auto)]
-

@@ -6,9 +6,8 @@ ghost use Rattle.std.specs.Prelude.{List, [], ℕ, ◌≤◌, length, take};
 ghost use Rattle.io.specs.Counts.{IsPrefixLen};
 ghost use Rattle.listing.specs.Listing.{Turns};
 
-use std::io::{Read, Stdin};
-
 use crate::turn::{Turned, finish, put_heading, turn};
+use std::io::{Read, Stdin};
 
 mod answer; // answer.rt: the answer for a line
 mod turn; // turn.rt: turns, each with its part of the text and its output

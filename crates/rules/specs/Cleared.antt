@@ -2,8 +2,8 @@
 -- eight zero bytes"): those of lists that carry their tag with count zero. Their places are read off a derivation of the bytes.
 use Rattle.std.specs.Prelude.{ℕ, suc, ◌-◌, List, [], ◌∷◌, ◌++◌, length, set}
 use Rattle.cdf.specs.Form.{Form}
-use Rattle.grammar.specs.Meaning.{Dimension, Attribute, Variable, Contents}
-use Rattle.rules.specs.Rules.{Sequence, none, more, Listed, absent, tagged, DimList, AttList, Var, var, Header, header}
+use Rattle.grammar.specs.Meaning.{Variable, Contents}
+use Rattle.rules.specs.Rules.{Sequence, none, more, Listed, absent, tagged, Var, var, Header, header}
 
 -- such tags inside the items of a list
 unfoldable pub in_items : {A : Type 0} {R : List ℕ → List ℕ → A → Type 0} {s u : List ℕ} {xs : List A} → ((s u : List ℕ) (x : A) → R s u x → List ℕ) → Sequence R s u xs → List ℕ

@@ -4,7 +4,7 @@ use native.Mathlib.Omega.{arith}
 use mathlib.Core.Path.{◌≡◌, refl, sym, ap, subst, ◌∙◌}
 use mathlib.Core.Bool.{Bool, true, false, cond, ◌&&◌}
 use mathlib.Core.List.{List}
-use lib.ListN.{length, get_or}
+use lib.ListN.{length}
 use lib.Dec.{leb, eqb}
 use borrow.Author.Tests.{leb-true, le-leb}
 use Rattle.cdf.specs.Below.{all_below}
@@ -22,7 +22,7 @@ use Rattle.rules.proofs.Laws.Capacity.{read_held}
 use Rattle.model.specs.Model.{id_holds, ids_hold}
 use Rattle.sizes.specs.Records.{total, is_record, chunk, chunk_bytes, record_part, padded_bytes, record_size, sizes_hold, end_of, ends_hold, max_position, max_chunk}
 use Rattle.order.specs.Writable.{rows_inside, to_write}
-use Rattle.order.specs.Inner.Lengths.{header_length, CountsHold}
+use Rattle.order.specs.Inner.Lengths.{header_length}
 use Rattle.order.proofs.Laws.Inside.{Inside, inside}
 use Rattle.order.proofs.Laws.Rows.{FullRows}
 use Rattle.order.proofs.Laws.Read.{laid-inside, laid-full}

@@ -2,9 +2,8 @@
 use Prim.Native.Nat.{ℕ}
 use mathlib.Core.Path.{◌≡◌, refl, sym, ap, ◌∙◌}
 use mathlib.Core.List.{List}
-use Rattle.cdf.specs.Step.{Step, got, stop, bind, number_of, given_or, Leaves}
+use Rattle.cdf.specs.Step.{Step, got, stop, bind, number_of, given_or}
 use Rattle.cdf.proofs.Laws.Step.{by-got, by-stop}
-use Rattle.cdf.specs.declared.version.Admitted.{Admitted}
 use Rattle.grammar.specs.Tables.{blank}
 use Rattle.grammar.specs.declared.tables.Tables.{Tables}
 use Rattle.header.specs.Header.{read_header, after_header}

@@ -1,9 +1,9 @@
 -- Laws of the variable that a read asks for.
-use Prim.Native.Nat.{ℕ, ◌+◌, ◌-◌, ◌*◌, ◌≤◌, ◌<◌}
+use Prim.Native.Nat.{ℕ, ◌≤◌, ◌<◌}
 use native.Mathlib.Omega.{arith}
 use native.Mathlib.Nat.{le-mul_of_pos_right}
 use mathlib.Core.Path.{◌≡◌, refl, sym, ap, ◌∙◌}
-use mathlib.Core.Bool.{Bool, true, false, cond}
+use mathlib.Core.Bool.{true, false, cond}
 use lib.Dec.{leb}
 use borrow.Author.Tests.{lt-leb, le-leb, leb-true, lt-ltb, le-ltb, eqb-true}
 use Rattle.cdf.specs.Below.{all_below}
@@ -12,7 +12,7 @@ use Rattle.cdf.proofs.Laws.Below.{both, all_hold, one-fails, holds_at}
 use Rattle.cdf.proofs.Laws.Step.{by-true, by-false, bind-came, test-came, got_same}
 use Rattle.items.specs.Types.{size_of}
 use Rattle.grammar.specs.Tables.{var_at}
-use Rattle.grammar.specs.Inner.Within.{Shaped, RowShaped}
+use Rattle.grammar.specs.Inner.Within.{Shaped}
 use Rattle.grammar.specs.declared.tables.Var.{Var}
 use Rattle.grammar.specs.declared.tables.Tables.{Tables}
 use Rattle.model.specs.Model.{ids_hold}

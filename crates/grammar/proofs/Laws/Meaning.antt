@@ -1,5 +1,5 @@
 -- Tables hold the tree that they lay out: what is read says what its tables say.
-use Prim.Native.Nat.{ℕ, zero, suc, ◌+◌, ◌-◌, ◌≤◌, ◌<◌}
+use Prim.Native.Nat.{ℕ, zero, suc, ◌+◌, ◌≤◌, ◌<◌}
 use native.Mathlib.Omega.{arith}
 use mathlib.Core.Path.{◌≡◌, refl, ap, sym, subst, ◌∙◌}
 use mathlib.Core.List.{List, [], ◌∷◌, ◌++◌, map, append_assoc, append-nil}
@@ -8,7 +8,7 @@ use Rattle.cdf.specs.Step.{got, into}
 use Rattle.cdf.specs.declared.version.Admitted.{Admitted}
 use Rattle.cdf.proofs.Laws.Step.{into-came}
 use Rattle.grammar.specs.Tables.{padded, no_var, zero_var, no_dim, no_attr, var_row, var_rows, laid}
-use Rattle.grammar.specs.Tree.{VarItem, Tree, tree, attrs_of}
+use Rattle.grammar.specs.Tree.{VarItem, Tree, attrs_of}
 use Rattle.grammar.specs.Grammar.{header}
 use Rattle.grammar.specs.Meaning.{item_of, held}
 use Rattle.grammar.specs.Inner.Within.{Within, RowWithin}

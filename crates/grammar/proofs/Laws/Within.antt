@@ -1,5 +1,5 @@
 -- The tables of a header that was read are within the capacities, and so have the shape that reads ask for.
-use Prim.Native.Nat.{ℕ, ◌+◌, ◌-◌, ◌≤◌, ◌<◌}
+use Prim.Native.Nat.{ℕ, ◌+◌, ◌≤◌, ◌<◌}
 use native.Mathlib.Omega.{arith}
 use native.Mathlib.Nat.{not-suc-le-zero}
 use mathlib.Core.Path.{◌≡◌, ap, subst, sym, ◌∙◌}
@@ -15,7 +15,7 @@ use Rattle.cdf.proofs.Laws.Word.{nelems-within}
 use Rattle.cdf.proofs.Laws.ListStart.{start-within}
 use Rattle.cdf.proofs.Laws.Step.{bind-came, got_same, into-came, items-length, items_keep}
 use Rattle.grammar.specs.Tables.{no_var, zero_var, var_row, var_rows, laid}
-use Rattle.grammar.specs.Inner.Parts.{VarHead, var_head, vars, dimids, lists}
+use Rattle.grammar.specs.Inner.Parts.{VarHead, var_head, vars, dimids}
 use Rattle.grammar.specs.Tree.{VarItem, Tree, attrs_of}
 use Rattle.grammar.specs.Dims.{dim_list}
 use Rattle.grammar.specs.Vars.{var, var_list}

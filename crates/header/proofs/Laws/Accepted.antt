@@ -2,12 +2,12 @@
 use Prim.Native.Nat.{ℕ, ◌≤◌}
 use native.Mathlib.Omega.{arith}
 use mathlib.Core.Path.{◌≡◌, refl, sym, ap, subst, ◌∙◌}
-use mathlib.Core.Bool.{Bool, true, false, ◌&&◌}
+use mathlib.Core.Bool.{true, ◌&&◌}
 use mathlib.Core.List.{List}
 use lib.ListN.{length}
 use lib.Dec.{leb}
 use borrow.Author.Tests.{leb-true}
-use Rattle.cdf.specs.Step.{Step, got, stop, bind, test, need, into}
+use Rattle.cdf.specs.Step.{Step, got, bind, need, into}
 use Rattle.cdf.specs.declared.version.Admitted.{Admitted}
 use Rattle.cdf.proofs.Laws.Below.{both}
 use Rattle.cdf.proofs.Laws.Step.{bind-came, test-came, got_same, into-came}

@@ -5,7 +5,7 @@ use mathlib.Core.List.{List, [], ◌∷◌, ◌++◌}
 use lib.ListN.{length}
 use lib.Dec.{ltb}
 use Rattle.cdf.specs.Step.{Step, got, stop, bind, test, into, items, unfinished}
-use Rattle.cdf.specs.Form.{Form, form}
+use Rattle.cdf.specs.Form.{Form}
 use Rattle.cdf.specs.Word.{word, non_negative, open_count, nelems, signed}
 use Rattle.cdf.specs.Magic.{magic, version_byte}
 use Rattle.cdf.specs.declared.version.Admitted.{Admitted}

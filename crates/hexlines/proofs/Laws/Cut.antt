@@ -1,19 +1,18 @@
 -- Laws of lines in blocks of text.
-use Prim.Native.Nat.{ℕ, suc, ◌+◌, ◌-◌, ◌≤◌, ◌<◌}
-use mathlib.Core.Path.{◌≡◌, refl, sym, ap, subst, ◌∙◌}
-use mathlib.Core.Bool.{Bool, true, false, cond}
+use Prim.Native.Nat.{ℕ, ◌+◌, ◌-◌, ◌≤◌, ◌<◌}
+use mathlib.Core.Path.{◌≡◌, refl, sym, ap, ◌∙◌}
+use mathlib.Core.Bool.{true, false}
 use mathlib.Core.Logic.{⊎_elim}
 use mathlib.Core.List.{List, [], ◌∷◌, ◌++◌, append_assoc, append-nil}
 use native.Mathlib.Omega.{arith}
 use native.Mathlib.Numerals.{add-one}
 use borrow.Author.Tests.{lt-ltb, le-ltb, eq-eqb, ne_eqb}
 use lib.ListN.{length, take, drop, get_or, set, length-append, length-drop}
-use lib.Seq.{take_all, take-take, take-suc, take-suc-set, take-append-le, length-take-le, get_or-drop, take-length}
-use lib.Dec.{ltb, eqb}
+use lib.Seq.{take_all, take-take, take-suc, take-suc-set, take-append-le, length-take-le, get_or-drop}
+use lib.Dec.{eqb}
 use Rattle.cdf.proofs.Laws.Below.{order, first-none, first-is}
 use Rattle.hexlines.specs.Lines.{newline}
 use Rattle.hexlines.specs.Inner.Cut.{before, kept, Cuts}
-use Rattle.hexlines.specs.declared.cut.Cut.{Cut}
 
 -- a character that is kept, and one that is not
 pub keep-room : (s : List ℕ) (held c : ℕ) → held < length s → held < kept → take (held + 1) (set s held c) ≡ take kept (take held s ++ (c ∷ []))

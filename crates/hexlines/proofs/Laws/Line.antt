@@ -1,7 +1,7 @@
 -- Laws of what a line answers.
-use Prim.Native.Nat.{ℕ, suc, ◌+◌, ◌*◌, ◌/◌, ◌%◌, ◌≤◌, ◌<◌}
-use mathlib.Core.Path.{◌≡◌, refl, sym, ap, ◌∙◌}
-use mathlib.Core.Bool.{Bool, true, false, and-false}
+use Prim.Native.Nat.{ℕ, ◌*◌, ◌/◌, ◌%◌, ◌≤◌, ◌<◌}
+use mathlib.Core.Path.{◌≡◌, sym, ap, ◌∙◌}
+use mathlib.Core.Bool.{true, false}
 use mathlib.Core.Logic.{⊎_elim}
 use mathlib.Core.List.{List}
 use native.Mathlib.Omega.{arith}
@@ -11,7 +11,7 @@ use lib.Seq.{take_all, length-take-le}
 use Rattle.bigendian.specs.Lists.{tab}
 use Rattle.cdf.proofs.Laws.Below.{order}
 use Rattle.hexlines.specs.Digit.{are_digits, pair}
-use Rattle.hexlines.specs.Line.{LineKind, long, hex, file, longest, kind_of}
+use Rattle.hexlines.specs.Line.{long, hex, file, longest, kind_of}
 use Rattle.hexlines.specs.Inner.Cut.{kept}
 
 pub kind-long : (s : List ℕ) → longest < length s → long ≡ kind_of s

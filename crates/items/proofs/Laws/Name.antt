@@ -1,13 +1,13 @@
 -- Laws of names.
 use Prim.Native.Nat.{ℕ, ◌+◌, ◌-◌, ◌≤◌, ◌<◌}
 use mathlib.Core.Path.{◌≡◌, refl, sym, subst, ◌∙◌}
-use mathlib.Core.Bool.{Bool, true, false, cond}
+use mathlib.Core.Bool.{true, false, cond}
 use mathlib.Core.List.{List}
 use native.Mathlib.Omega.{arith}
 use lib.ListN.{length}
 use lib.Dec.{ltb}
 use borrow.Author.Tests.{lt-leb, le-leb, leb-true}
-use Rattle.cdf.specs.Step.{Step, got, stop, bind}
+use Rattle.cdf.specs.Step.{got, stop, bind}
 use Rattle.cdf.specs.Word.{nelems}
 use Rattle.cdf.specs.Padding.{zero_padding}
 use Rattle.items.specs.Utf8.{utf8}

@@ -1,15 +1,15 @@
 -- Laws of data types.
 use Prim.Native.Nat.{ℕ, zero, suc, ◌≤◌, ◌<◌}
 use mathlib.Core.Path.{◌≡◌, refl, ap}
-use mathlib.Core.Bool.{Bool, true, false, ◌&&◌, and-false}
+use mathlib.Core.Bool.{and-false}
 use mathlib.Core.Logic.{⊎_elim}
 use mathlib.Core.List.{List}
 use native.Mathlib.Omega.{arith}
-use lib.ListN.{length, get_or, get_or-eq_default}
+use lib.ListN.{length, get_or-eq_default}
 use lib.Dec.{leb, lit≤}
 use borrow.Author.Tests.{lt-leb, le-leb, leb-true}
-use Rattle.cdf.specs.Step.{Step, got, stop}
-use Rattle.cdf.specs.Below.{between, all_below}
+use Rattle.cdf.specs.Step.{got, stop}
+use Rattle.cdf.specs.Below.{all_below}
 use Rattle.cdf.specs.Word.{non_negative}
 use Rattle.items.specs.Types.{sizes, size_of, data_type}
 use Rattle.cdf.proofs.Laws.Step.{Ends, ended, stopped, bind-ends, test-ends, by-got, by-stop, by-true, by-false, bind-came, test-came, got_same}

@@ -1,7 +1,7 @@
 -- Laws of well-formed UTF-8: the rows of the table by their ranges, and a text byte by byte.
 use Prim.Native.Nat.{ℕ, zero, suc, ◌+◌, ◌-◌, ◌≤◌, ◌<◌}
 use mathlib.Core.Path.{◌≡◌, refl, sym, ap, ◌∙◌}
-use mathlib.Core.Bool.{Bool, true, false, cond, ◌&&◌, ◌||◌, and-false}
+use mathlib.Core.Bool.{Bool, true, false, ◌&&◌, ◌||◌}
 use mathlib.Core.List.{List, [], ◌∷◌}
 use mathlib.Core.Logic.{◌⊎◌, inl, inr, ⊎_elim}
 use native.Mathlib.Omega.{arith}
@@ -13,7 +13,6 @@ use borrow.Author.Tests.{ltb-true, eq-eqb, ne_eqb}
 use Rattle.cdf.proofs.Laws.Below.{inside, under, over}
 use Rattle.items.specs.Utf8.{Row, sequences, opening, after, scan, utf8}
 use Rattle.items.specs.declared.utf8.Due.{Due}
-use Rattle.items.specs.declared.utf8.Scanned.{Scanned}
 use Rattle.items.specs.declared.utf8.Scanned.TheVariants.{Good, Bad}
 
 -- the first i rows end below low

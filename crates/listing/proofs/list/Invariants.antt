@@ -1,12 +1,8 @@
-use borrow.Author.Rules.{rules}
-use native.Mathlib.Omega.{arith}
-use mathlib.Core.Path.{◌≡◌, refl, sym}
+use mathlib.Core.Path.{◌≡◌}
 use mathlib.Core.List.{List, []}
 use lib.ListN.{length, take}
-use lib.Seq.{length-take-le}
 use Prim.Native.Nat.{ℕ, ◌≤◌}
 use Rattle.listing.specs.Listing.{Turns}
-use Rattle.listing.proofs.Laws.Listing.{turns-none, turns_then}
 use Rattle.listing.proofs.list.Given as goal
 
 abbrev pub invariant-loop-reads : goal.invariant-loop-reads

@@ -1,11 +1,8 @@
 use borrow.Author.Rules.{rules}
 use native.Mathlib.Omega.{arith}
-use mathlib.Core.Path.{◌≡◌, refl, sym}
-use mathlib.Core.List.{List, []}
-use lib.ListN.{length, take}
+use mathlib.Core.Path.{refl, sym}
+use mathlib.Core.List.{[]}
 use lib.Seq.{length-take-le}
-use Prim.Native.Nat.{ℕ, ◌-◌, ◌≤◌}
-use Rattle.listing.specs.Listing.{Turns}
 use Rattle.listing.proofs.Laws.Listing.{turns-none, turn_more, turn-all}
 use Rattle.listing.proofs.list_block.Goals as goal
 

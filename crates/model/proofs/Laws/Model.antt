@@ -1,15 +1,15 @@
 -- Laws of the model rules.
 use Prim.Native.Nat.{ℕ, ◌+◌, ◌≤◌, ◌<◌}
 use native.Mathlib.Omega.{arith}
-use mathlib.Core.Path.{◌≡◌, refl, sym, ap, subst, ◌∙◌}
+use mathlib.Core.Path.{◌≡◌, sym, ap, subst, ◌∙◌}
 use mathlib.Core.Logic.{⊎_elim}
 use native.Mathlib.Nat.{eq-or-lt_of_le}
-use mathlib.Core.Bool.{Bool, true, false, ◌&&◌, ◌||◌, not, and-false, or-true}
+use mathlib.Core.Bool.{Bool, true, false, ◌&&◌, not, and-false, or-true}
 use mathlib.Core.List.{List}
 use lib.ListN.{get_or}
 use lib.Dec.{ltb, eqb}
 use borrow.Author.Tests.{lt-ltb, le-ltb, eq-eqb, ne_eqb}
-use Rattle.cdf.specs.Below.{all_below, any_below, first_where}
+use Rattle.cdf.specs.Below.{all_below, any_below}
 use Rattle.items.specs.Name.{same_bytes}
 use Rattle.cdf.proofs.Laws.Below.{order, both, all_hold, one-fails, none-holds, some_holds, first-none, first-is, first_some, first-before}
 use Rattle.grammar.specs.Tables.{dim_at, var_at, id_at}

@@ -1,5 +1,5 @@
 -- Laws of element reads.
-use Prim.Native.Nat.{ℕ, ◌+◌, ◌-◌, ◌*◌, ◌≤◌, ◌<◌}
+use Prim.Native.Nat.{ℕ, ◌+◌, ◌-◌, ◌≤◌, ◌<◌}
 use native.Mathlib.Omega.{arith}
 use native.Mathlib.Nat.{one-mul}
 use mathlib.Core.Path.{◌≡◌, refl, sym, ap, subst, ◌∙◌}
@@ -14,7 +14,6 @@ use Rattle.items.specs.Types.{size_of}
 use Rattle.items.proofs.Laws.Types.{by_code}
 use Rattle.decode.specs.Decoded.{float, double}
 use Rattle.decode.proofs.Laws.Decoded.{one_byte}
-use Rattle.grammar.specs.declared.tables.Tables.{Tables}
 use Rattle.reads.specs.Reads.{element_at, bits, holds}
 use Rattle.reads.specs.Inner.Spot.{element_spot}
 use Rattle.reads.specs.Element.{value_of, element_with, element_of, of_value}

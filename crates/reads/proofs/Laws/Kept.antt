@@ -1,15 +1,15 @@
 -- Laws of a variable that is kept: its test, its answers, and that one which was found passes.
-use Prim.Native.Nat.{ℕ, zero, suc, ◌+◌, ◌-◌, ◌*◌, ◌^◌, ◌≤◌, ◌<◌}
+use Prim.Native.Nat.{ℕ, ◌+◌, ◌-◌, ◌*◌, ◌≤◌, ◌<◌}
 use native.Mathlib.Omega.{arith}
 use native.Mathlib.Nat.{mul-le-mul_right}
 use mathlib.Core.Path.{◌≡◌, refl, sym, ap, subst, ◌∙◌}
-use mathlib.Core.Bool.{Bool, true, false, and-true, ◌||◌}
+use mathlib.Core.Bool.{Bool, true, false, ◌||◌}
 use mathlib.Core.Logic.{⊎_elim}
 use lib.Dec.{leb, eqb}
 use borrow.Author.Tests.{lt-leb, le-leb, leb-true, leb-false, eq-eqb, ne_eqb, eqb-true, eqb-false}
 use Rattle.cdf.specs.Step.{Step, got, stop, bind}
 use Rattle.cdf.proofs.Laws.Below.{both, order}
-use Rattle.cdf.proofs.Laws.Step.{by-true, by-false, by-got, by-stop, bind-came, test-came, got_same, bind-same, bind-got}
+use Rattle.cdf.proofs.Laws.Step.{by-true, by-false, by-got, by-stop, bind-came, test-came, got_same}
 use Rattle.items.specs.Types.{size_of}
 use Rattle.sizes.specs.Records.{max_position}
 use Rattle.grammar.specs.declared.tables.Tables.{Tables}

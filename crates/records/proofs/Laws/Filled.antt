@@ -1,5 +1,5 @@
 -- That decoding a stretch fills an output as the reads of records and of whole variables say, and what a decoder may rely on.
-use Prim.Native.Nat.{ℕ, zero, suc, ◌+◌, ◌-◌, ◌*◌, ◌≤◌, ◌<◌}
+use Prim.Native.Nat.{ℕ, ◌+◌, ◌-◌, ◌*◌, ◌≤◌, ◌<◌}
 use native.Mathlib.Omega.{arith}
 use native.Mathlib.Nat.{mul_comm, one-mul, zero-mul}
 use mathlib.Core.Path.{◌≡◌, refl, sym, ap, subst, ◌∙◌}
@@ -19,8 +19,7 @@ use Rattle.decode.specs.Inner.Chunks.{of_record}
 use Rattle.bigendian.proofs.Laws.Lists.{grid-ext, row_in}
 use Rattle.decode.proofs.Laws.Room.{every-record}
 use Rattle.reads.specs.Kept.{whole_bytes, kept_as}
-use Rattle.reads.specs.Reads.{record_at, element_at, bits, holds, record_from, whole_from}
-use Rattle.reads.specs.Inner.Spot.{Bounded}
+use Rattle.reads.specs.Reads.{record_at, bits, holds, record_from, whole_from}
 use Rattle.records.specs.Inner.Stretch.{record_stretch, whole_stretch, record_placed, whole_placed, filled}
 use Rattle.found.specs.declared.variable.Spread.{Spread}
 use Rattle.records.specs.declared.stretch.Stretch.{Stretch}

@@ -1,4 +1,4 @@
-use Rattle.std.proofs.Common.{◌≡◌, ◌-◌, ◌≤◌, length, sym, arith, length-take-le, rules}
+use Rattle.std.proofs.Common.{sym, arith, length-take-le}
 use Rattle.replay.proofs.lines.Goals as goal
 
 pub slice_bounds-line-end-in-loop-at : goal.slice_bounds-line-end-in-loop-at

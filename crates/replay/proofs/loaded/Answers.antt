@@ -1,4 +1,4 @@
-use Rattle.std.proofs.Common.{◌≤◌, sym, subst, arith, length-take-le, rules}
+use Rattle.std.proofs.Common.{◌≤◌, sym, subst, arith, length-take-le}
 use Rattle.hexlines.specs.Inner.Answers.{file_size}
 use Rattle.hexlines.specs.declared.line.Line.{Line}
 use Rattle.replay.proofs.loaded.Goals as goal

@@ -1,13 +1,12 @@
 -- What the reader's grammar reads lies inside the bytes and within the capacities.
-use Prim.Native.Nat.{ℕ, zero, suc, ◌+◌, ◌*◌, ◌≤◌, ◌<◌, min}
+use Prim.Native.Nat.{ℕ, ◌+◌, ◌*◌, ◌≤◌}
 use native.Mathlib.Omega.{arith}
 use native.Mathlib.Nat.{min-le_left}
-use mathlib.Core.Path.{◌≡◌, refl, ap, sym, subst, ◌∙◌}
+use mathlib.Core.Path.{◌≡◌, refl, sym, subst, ◌∙◌}
 use mathlib.Core.List.{List, [], ◌∷◌, ◌++◌, map}
-use lib.ListN.{length, take, drop, length-append, length-map, length-take}
-use lib.Dec.{leb}
+use lib.ListN.{length, drop, length-append, length-map, length-take}
 use borrow.Author.Tests.{leb-true}
-use Rattle.cdf.specs.Step.{Step, got, bind, items}
+use Rattle.cdf.specs.Step.{Step, got, items}
 use Rattle.cdf.specs.Form.{Form, form}
 use Rattle.cdf.specs.declared.version.Admitted.{Admitted}
 use Rattle.cdf.proofs.Laws.Step.{bind-came, test-came, got_same, items-length, items_keep, into-got}
@@ -16,7 +15,7 @@ use Rattle.cdf.specs.Word.{word, non_negative, nelems}
 use Rattle.items.specs.Name.{longest_name, part, name}
 use Rattle.items.specs.Types.{size_of}
 use Rattle.items.specs.Values.{values}
-use Rattle.grammar.specs.Meaning.{Dimension, Attribute, Variable, Contents, dimension, attribute, variable, contents}
+use Rattle.grammar.specs.Meaning.{dimension, attribute, variable, contents}
 use Rattle.grammar.specs.Tree.{VarItem, Tree, attrs_of}
 use Rattle.grammar.specs.Tables.{max_rank, laid}
 use Rattle.grammar.specs.Dims.{dim, dim_list}

@@ -1,5 +1,5 @@
 -- The bytes of what a header says are the bytes that say it, but for the tags of empty lists.
-use Prim.Native.Nat.{ℕ, zero, suc, ◌+◌, ◌-◌, ◌*◌, ◌≤◌, ◌<◌}
+use Prim.Native.Nat.{ℕ, zero, suc, ◌+◌, ◌-◌}
 use native.Mathlib.Omega.{arith}
 use mathlib.Core.Path.{◌≡◌, refl, ap, sym, subst, ◌∙◌}
 use mathlib.Core.List.{List, [], ◌∷◌, ◌++◌, append_assoc, append-nil}
@@ -10,7 +10,7 @@ use Rattle.cdf.specs.Padding.{padding}
 use Rattle.grammar.specs.Meaning.{Dimension, Attribute, Variable, Contents}
 use Rattle.rules.specs.Encode.{padded_out, each, list_bytes, name_bytes, dim_bytes, attr_bytes, var_bytes, encode}
 use Rattle.rules.specs.Cleared.{in_items, of_tagged, of_list, of_var, empty_tags, cleared}
-use Rattle.rules.specs.Rules.{spelled, NonNeg, non_neg, Numrecs, known, streaming, Offset, int, int64, Padding, nulls, Padded, bytes, Name, name, NcType, nc_type, Sequence, none, more, Listed, absent, tagged, Dim, dim, DimList, Attr, attr, AttList, Var, var, VarList, Magic, classic, offset64, Header, header}
+use Rattle.rules.specs.Rules.{spelled, NonNeg, non_neg, Numrecs, known, streaming, Offset, int, int64, nulls, Padded, bytes, Name, name, NcType, nc_type, Sequence, none, more, Listed, absent, tagged, Dim, dim, Attr, attr, AttList, Var, var, Magic, classic, offset64, Header, header}
 
 -- one after the other
 next : (a b s t u : List ℕ) → s ≡ a ++ t → t ≡ b ++ u → s ≡ a ++ b ++ u

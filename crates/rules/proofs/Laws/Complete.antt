@@ -1,19 +1,18 @@
 -- What the rules derive, the steps of the reader take, where the capacities allow it.
-use Prim.Native.Nat.{ℕ, zero, suc, ◌+◌, ◌-◌, ◌*◌, ◌^◌, ◌≤◌, ◌<◌}
+use Prim.Native.Nat.{ℕ, ◌+◌, ◌-◌, ◌*◌, ◌^◌, ◌≤◌, ◌<◌}
 use native.Mathlib.Omega.{arith}
-use mathlib.Core.Path.{◌≡◌, refl, ap, sym, subst, ◌∙◌}
-use mathlib.Core.Bool.{Bool, true, false, cond, ◌||◌, ◌&&◌}
-use mathlib.Core.Logic.{◌⊎◌, inl, inr, ⊎_elim}
+use mathlib.Core.Path.{◌≡◌, refl, ap, sym, ◌∙◌}
+use mathlib.Core.Bool.{true}
+use mathlib.Core.Logic.{inr}
 use mathlib.Core.List.{List, [], ◌∷◌, ◌++◌, map, append_assoc, append-nil}
 use lib.ListN.{length, get_or, take, drop, replicate, length-append, length-drop, length-replicate, length-map, get_or-replicate, get_or-append}
 use lib.Seq.{drop-drop, get_or-drop, take_at, drop_at}
-use Rattle.bigendian.specs.Number.{be, half, extended}
 use Rattle.bigendian.proofs.Laws.Number.{extended-low}
-use Rattle.cdf.specs.Step.{Step, got, stop, bind, items}
+use Rattle.cdf.specs.Step.{Step, got, bind, items}
 use Rattle.cdf.specs.Form.{Form, form}
-use Rattle.cdf.specs.Word.{word, non_negative, open_count, nelems, signed, indeterminate}
-use Rattle.cdf.specs.Padding.{padding, zeros, zero_padding}
-use Rattle.cdf.specs.Magic.{begins, cdf, magic, admits, version_byte}
+use Rattle.cdf.specs.Word.{word, non_negative, open_count, nelems, signed}
+use Rattle.cdf.specs.Padding.{padding, zero_padding}
+use Rattle.cdf.specs.Magic.{cdf, magic, admits, version_byte}
 use Rattle.cdf.specs.ListStart.{list_start}
 use Rattle.cdf.specs.declared.version.Admitted.{Admitted}
 use Rattle.cdf.proofs.Laws.Step.{by-got}
@@ -23,7 +22,6 @@ use Rattle.cdf.proofs.Laws.Word.{word_got, non_negative-got, open_count-got, ope
 use Rattle.cdf.proofs.Laws.ListStart.{tag_bytes, start-absent, start-tag}
 use Rattle.items.specs.Name.{longest_name, part, name as name_step}
 use Rattle.items.specs.Types.{size_of, data_type}
-use Rattle.items.specs.Utf8.{utf8}
 use Rattle.items.specs.Values.{values}
 use Rattle.items.proofs.Laws.Name.{name_bytes-got, name-got}
 use Rattle.items.proofs.Laws.Types.{type-got}
@@ -38,7 +36,7 @@ use Rattle.grammar.specs.Vars.{var as var_step, var_list}
 use Rattle.grammar.specs.Grammar.{header as header_step}
 use Rattle.grammar.specs.declared.tables.Dim.{Dim as DimRow}
 use Rattle.grammar.specs.declared.tables.Attr.{Attr as AttrRow}
-use Rattle.rules.specs.Rules.{spelled, NonNeg, non_neg, Numrecs, known, streaming, Offset, int, int64, Padding, nulls, Padded, bytes, Name, name, NcType, nc_type, Sequence, none, more, Listed, absent, tagged, Dim, dim, DimList, Attr, attr, AttList, Var, var, VarList, Magic, classic, offset64, Header, header}
+use Rattle.rules.specs.Rules.{spelled, NonNeg, non_neg, Numrecs, known, streaming, Offset, int, int64, Padding, nulls, Padded, bytes, Name, name, NcType, nc_type, Sequence, none, more, Listed, absent, tagged, Dim, dim, Attr, attr, AttList, Var, var, VarList, Magic, classic, offset64, Header, header}
 use Rattle.rules.specs.Capacity.{attributes_of}
 use Rattle.rules.proofs.Laws.Views.{EachIs, IsShort, AreShort, VarFits, Fits}
 use Rattle.rules.proofs.Laws.Spelled.{length-spelled, be-spelled, half-fits, open-fits}

@@ -1,16 +1,15 @@
 -- The bytes of what a header says are derived by the rules.
-use Prim.Native.Nat.{ℕ, zero, suc, ◌*◌, ◌≤◌, ◌<◌}
-use native.Mathlib.Omega.{arith}
-use mathlib.Core.Path.{◌≡◌, refl, ap, sym, subst, ◌∙◌}
-use mathlib.Core.Logic.{◌⊎◌, inl, inr, ⊎_elim}
+use Prim.Native.Nat.{ℕ}
+use mathlib.Core.Path.{◌≡◌, refl, ap, subst}
+use mathlib.Core.Logic.{◌⊎◌, ⊎_elim}
 use mathlib.Core.List.{List, [], ◌∷◌, ◌++◌, append_assoc}
 use lib.ListN.{length, replicate}
 use Rattle.cdf.specs.Form.{Form, form}
 use Rattle.cdf.specs.Padding.{padding}
 use Rattle.grammar.specs.Meaning.{Dimension, Attribute, Variable, Contents}
-use Rattle.rules.proofs.Laws.Views.{EachIs, IsWord, IsOpenWord, IsCode, IsText, DimInRange, AttrInRange, VarInRange, InRange}
+use Rattle.rules.proofs.Laws.Views.{EachIs, IsWord, IsOpenWord, IsText, DimInRange, AttrInRange, VarInRange, InRange}
 use Rattle.rules.specs.Encode.{padded_out, each, list_bytes, name_bytes, dim_bytes, attr_bytes, var_bytes, encode}
-use Rattle.rules.specs.Rules.{spelled, NonNeg, non_neg, Numrecs, known, streaming, Offset, int, int64, Padding, nulls, Padded, bytes, Name, name, NcType, nc_type, Sequence, none, more, Listed, absent, tagged, Dim, dim, DimList, Attr, attr, AttList, Var, var, VarList, Magic, classic, offset64, Header, header}
+use Rattle.rules.specs.Rules.{spelled, NonNeg, non_neg, Numrecs, known, streaming, Offset, int, int64, nulls, Padded, bytes, Name, name, nc_type, Sequence, none, more, Listed, absent, tagged, Dim, dim, Attr, attr, Var, var, classic, offset64, Header, header}
 use Rattle.rules.proofs.Laws.Sound.{width_of}
 
 padded-derived : (b u : List ℕ) → Padded b (padded_out b ++ u) u

@@ -1,15 +1,15 @@
 -- What is derived is in range.
-use Prim.Native.Nat.{ℕ, ◌*◌, ◌≤◌, ◌<◌}
+use Prim.Native.Nat.{ℕ, ◌<◌}
 use native.Mathlib.Omega.{arith}
-use mathlib.Core.Path.{◌≡◌, refl, ap, sym, subst, ◌∙◌}
+use mathlib.Core.Path.{◌≡◌, sym, subst}
 use mathlib.Core.Logic.{◌⊎◌, inl, inr}
-use mathlib.Core.List.{List, [], ◌∷◌, ◌++◌}
+use mathlib.Core.List.{List, [], ◌∷◌}
 use lib.ListN.{length}
 use Rattle.bigendian.specs.Number.{half}
 use Rattle.cdf.specs.Form.{Form, form}
 use Rattle.grammar.specs.Meaning.{Dimension, Attribute, Variable, Contents}
 use Rattle.rules.proofs.Laws.Views.{EachIs, IsWord, IsOpenWord, IsCode, IsText, DimInRange, AttrInRange, VarInRange, InRange}
-use Rattle.rules.specs.Rules.{NonNeg, non_neg, Numrecs, known, streaming, Offset, int, int64, Padded, Name, name, NcType, nc_type, Sequence, none, more, Listed, absent, tagged, Dim, dim, Attr, attr, Var, var, Magic, classic, offset64, Header, header}
+use Rattle.rules.specs.Rules.{NonNeg, non_neg, Numrecs, known, streaming, Offset, int, int64, Name, name, NcType, nc_type, Sequence, more, Listed, absent, tagged, Dim, dim, Attr, attr, Var, var, Magic, classic, offset64, Header, header}
 
 word-range : {k n : ℕ} {s u : List ℕ} → NonNeg k s u n → n < half k
 word-range (non_neg h e) = h

@@ -1,20 +1,19 @@
 -- What a step of the reader takes is derived by the rule of its name.
-use Prim.Native.Nat.{ℕ, zero, suc, ◌+◌, ◌-◌, ◌*◌, ◌^◌, ◌≤◌, ◌<◌}
+use Prim.Native.Nat.{ℕ, zero, suc, ◌+◌, ◌*◌, ◌^◌, ◌≤◌, ◌<◌}
 use native.Mathlib.Omega.{arith}
 use native.Mathlib.Nat.{zero-add}
 use mathlib.Core.Path.{◌≡◌, refl, ap, sym, subst, ◌∙◌}
 use mathlib.Core.Bool.{Bool, true, false, cond, ◌||◌, ◌&&◌}
 use mathlib.Core.Logic.{◌⊎◌, inl, inr, ⊎_elim}
 use mathlib.Core.List.{List, [], ◌∷◌, ◌++◌, map, append_assoc, append-nil}
-use lib.ListN.{length, get_or, take, drop, replicate, length-append, length-drop, length-replicate, get_or-replicate, take-append-drop, length-map}
+use lib.ListN.{length, get_or, take, drop, replicate, length-drop, length-replicate, get_or-replicate, take-append-drop, length-map}
 use lib.Seq.{drop-drop, get_or-take, get_or-drop, ext_get_or, length-take-le, drop-cons}
 use lib.Dec.{ltb, leb, eqb}
-use borrow.Author.Tests.{ltb-true, leb-true, eqb-true, lt-ltb}
+use borrow.Author.Tests.{ltb-true, leb-true, eqb-true}
 use Rattle.bigendian.specs.Number.{be, half, extended}
 use Rattle.bigendian.proofs.Laws.Number.{extended-low, extended-high}
-use Rattle.cdf.specs.Step.{Step, got, stop, bind, test, unfinished, items}
+use Rattle.cdf.specs.Step.{Step, got, bind, test, unfinished, items}
 use Rattle.cdf.specs.Form.{Form, form}
-use Rattle.cdf.specs.Below.{between}
 use Rattle.cdf.specs.Word.{word, non_negative, open_count, nelems, signed, indeterminate}
 use Rattle.cdf.specs.Padding.{padding, zeros, zero_padding}
 use Rattle.cdf.specs.Magic.{begins, cdf, magic, admits, version_byte}
@@ -26,10 +25,9 @@ use Rattle.cdf.proofs.Laws.Magic.{begins-at}
 use Rattle.cdf.proofs.Laws.ListStart.{tag_bytes, tag-inside}
 use Rattle.items.specs.Name.{longest_name, part, name as name_step}
 use Rattle.items.specs.Types.{size_of, data_type}
-use Rattle.items.specs.Utf8.{utf8}
 use Rattle.items.specs.Values.{values}
-use Rattle.grammar.specs.Meaning.{Dimension, Attribute, Variable, Contents, dimension, attribute, variable, contents}
-use Rattle.grammar.specs.Tree.{VarItem, Tree, tree, attrs_of}
+use Rattle.grammar.specs.Meaning.{Variable, dimension, attribute, variable, contents}
+use Rattle.grammar.specs.Tree.{VarItem, Tree, attrs_of}
 use Rattle.grammar.specs.Dims.{dim as dim_step, dim_list}
 use Rattle.grammar.specs.Tables.{max_rank}
 use Rattle.grammar.specs.Attrs.{attr as attr_step, attr_list}
@@ -37,7 +35,7 @@ use Rattle.grammar.specs.Vars.{var as var_step, var_list}
 use Rattle.grammar.specs.Grammar.{header as header_step}
 use Rattle.grammar.specs.declared.tables.Dim.{Dim as DimRow}
 use Rattle.grammar.specs.declared.tables.Attr.{Attr as AttrRow}
-use Rattle.rules.specs.Rules.{spelled, NonNeg, non_neg, Numrecs, known, streaming, Offset, int, int64, Padding, nulls, Padded, bytes, Name, name, NcType, nc_type, Sequence, none, more, Listed, absent, tagged, Dim, dim, DimList, Attr, attr, AttList, Var, var, VarList, Magic, classic, offset64, Header, header}
+use Rattle.rules.specs.Rules.{spelled, NonNeg, non_neg, Numrecs, known, streaming, Offset, int, int64, Padding, nulls, Padded, bytes, Name, name, NcType, nc_type, Sequence, none, more, Listed, absent, tagged, Dim, dim, Attr, attr, AttList, Var, var, VarList, Magic, classic, offset64, Header, header}
 use Rattle.rules.proofs.Laws.Views.{EachIs}
 use Rattle.rules.proofs.Laws.Spelled.{spelled-be}
 use Rattle.rules.proofs.Laws.Sequence.{none-same, sequence-map, listed-where}

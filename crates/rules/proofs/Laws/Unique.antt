@@ -1,13 +1,12 @@
 -- The same bytes say one thing only, and end at one place.
-use Prim.Native.Nat.{ℕ, zero, suc, ◌*◌, ◌^◌, ◌≤◌, ◌<◌}
+use Prim.Native.Nat.{ℕ, ◌^◌, ◌≤◌, ◌<◌}
 use native.Mathlib.Omega.{arith}
-use mathlib.Core.Path.{◌≡◌, refl, ap, sym, subst, ◌∙◌}
+use mathlib.Core.Path.{◌≡◌, refl, ap, sym, ◌∙◌}
 use mathlib.Core.List.{List, [], ◌∷◌, ◌++◌}
 use lib.ListN.{length, get_or, replicate, length-replicate, get_or-replicate, get_or-append}
 use Rattle.cdf.specs.Form.{Form, form}
 use Rattle.cdf.specs.Padding.{padding}
-use Rattle.grammar.specs.Meaning.{Dimension, Attribute, Variable, Contents}
-use Rattle.rules.specs.Rules.{spelled, NonNeg, non_neg, Numrecs, known, streaming, Offset, int, int64, Padding, nulls, Padded, bytes, Name, name, NcType, nc_type, Sequence, none, more, Listed, absent, tagged, Dim, dim, DimList, Attr, attr, AttList, Var, var, VarList, Magic, classic, offset64, Header, header}
+use Rattle.rules.specs.Rules.{spelled, NonNeg, non_neg, Numrecs, known, streaming, Offset, int, int64, Padding, nulls, Padded, bytes, Name, name, NcType, nc_type, Sequence, none, more, Listed, absent, tagged, Dim, dim, Attr, attr, AttList, Var, var, Magic, classic, offset64, Header, header}
 use Rattle.rules.proofs.Laws.Spelled.{half-fits, open-fits, spelled_same, same-front}
 
 -- what two derivations of the same bytes have in common

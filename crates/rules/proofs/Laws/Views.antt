@@ -1,7 +1,7 @@
 -- The capacities and ranges as what they say, each both ways.
 use Prim.Native.Nat.{ℕ, ◌*◌, ◌≤◌, ◌<◌}
 use native.Mathlib.Omega.{arith}
-use mathlib.Core.Path.{◌≡◌, refl, ap, sym, ◌∙◌}
+use mathlib.Core.Path.{◌≡◌, refl}
 use mathlib.Core.Bool.{Bool, true, false, ◌&&◌, ◌||◌, or-true}
 use mathlib.Core.Logic.{◌⊎◌, inl, inr, ⊎_elim}
 use mathlib.Core.List.{List, [], ◌∷◌, ◌++◌}
@@ -10,7 +10,6 @@ use lib.Dec.{ltb, leb, eqb}
 use borrow.Author.Tests.{lt-ltb, ltb-true, le-leb, leb-true, eq-eqb, eqb-true}
 use Rattle.bigendian.specs.Number.{half}
 use Rattle.cdf.specs.Form.{Form, form}
-use Rattle.cdf.specs.Below.{between}
 use Rattle.cdf.specs.Magic.{both_versions, admits}
 use Rattle.cdf.specs.Word.{indeterminate}
 use Rattle.cdf.proofs.Laws.Below.{both}

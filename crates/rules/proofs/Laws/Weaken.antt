@@ -1,15 +1,12 @@
 -- What is derived before some bytes is derived before more of them.
-use Prim.Native.Nat.{ℕ, ◌*◌, ◌≤◌, ◌<◌}
-use native.Mathlib.Omega.{arith}
-use mathlib.Core.Path.{◌≡◌, refl, ap, sym, subst, ◌∙◌}
-use mathlib.Core.Logic.{◌⊎◌, inl, inr}
+use Prim.Native.Nat.{ℕ}
+use mathlib.Core.Path.{◌≡◌, ap, ◌∙◌}
 use mathlib.Core.List.{List, [], ◌∷◌, ◌++◌, append_assoc}
 use lib.ListN.{length, replicate}
-use Rattle.bigendian.specs.Number.{half}
 use Rattle.cdf.specs.Form.{Form, form}
 use Rattle.cdf.specs.Padding.{padding}
 use Rattle.grammar.specs.Meaning.{Dimension, Attribute, Variable, Contents}
-use Rattle.rules.specs.Rules.{spelled, NonNeg, non_neg, Numrecs, known, streaming, Offset, int, int64, Padding, nulls, Padded, bytes, Name, name, NcType, nc_type, Sequence, none, more, Listed, absent, tagged, Dim, dim, DimList, Attr, attr, AttList, Var, var, VarList, Magic, classic, offset64, Header, header}
+use Rattle.rules.specs.Rules.{spelled, NonNeg, non_neg, Numrecs, known, streaming, Offset, int, int64, nulls, Padded, bytes, Name, name, NcType, nc_type, Sequence, none, more, Listed, absent, tagged, Dim, dim, Attr, attr, Var, var, Magic, classic, offset64, Header, header}
 
 module _ (w : List ℕ) where
   -- bytes that stand at the front still do

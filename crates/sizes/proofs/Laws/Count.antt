@@ -5,7 +5,7 @@ use native.Mathlib.Numerals.{add-one}
 use native.Mathlib.Nat.{add-zero, mul-zero}
 use mathlib.Core.Path.{◌≡◌, refl, sym, ap, subst, ◌∙◌}
 use mathlib.Core.Logic.{⊎_elim}
-use mathlib.Core.Bool.{Bool, true, false, cond, ◌&&◌, ◌||◌, or-true}
+use mathlib.Core.Bool.{Bool, true, false, cond, ◌||◌, or-true}
 use lib.Dec.{ltb, leb, eqb}
 use borrow.Author.Tests.{lt-ltb, le-ltb, le-leb, lt-leb, eq-eqb, ne_eqb, leb-true, ltb-true}
 use Rattle.cdf.specs.Step.{Step, got, stop}
@@ -18,7 +18,7 @@ use Rattle.model.specs.Model.{is_unlimited, ids_hold}
 use Rattle.model.specs.Inner.Unlimited.{unlimited}
 use Rattle.sizes.specs.Inner.Sizes.{placed, divided, capped, largest, first_end, fixed_ends, fixed_ends_hold, record_end, added, still_holds, ends_in, sizes_of}
 use Rattle.sizes.specs.Records.{smallest, total, is_record, padded_bytes, record_part, record_size, max_position, max_chunk, sizes_hold, end_of, ends_hold}
-use Rattle.sizes.specs.Count.{has_unlimited, has_records, is_open, first_begin, count_or, record_count}
+use Rattle.sizes.specs.Count.{has_unlimited, has_records, first_begin, count_or, record_count}
 use Rattle.grammar.specs.declared.tables.Tables.{Tables}
 use Rattle.sizes.specs.declared.records.Sizes.{Sizes}
 use Rattle.sizes.specs.declared.count.Known.{Known}

@@ -1,16 +1,15 @@
 -- Laws of rows that are put into an output, one after the other.
-use Prim.Native.Nat.{ℕ, zero, suc, ◌+◌, ◌-◌, ◌*◌, ◌≤◌, ◌<◌}
+use Prim.Native.Nat.{ℕ, zero, suc, ◌+◌, ◌*◌, ◌≤◌, ◌<◌}
 use native.Mathlib.Omega.{arith}
 use native.Mathlib.Nat.{add-zero, mul-le-mul_left}
 use native.Mathlib.Numerals.{add-one}
-use mathlib.Core.Path.{◌≡◌, refl, sym, ap, subst, ◌∙◌}
+use mathlib.Core.Path.{◌≡◌, sym, ap, subst, ◌∙◌}
 use mathlib.Core.List.{List, [], ◌∷◌, ◌++◌, append_assoc, append-nil}
 use lib.ListN.{length, take, drop, get_or, length-append}
 use lib.Seq.{take-suc, get_or-drop}
 use Rattle.cdf.specs.Form.{form}
 use Rattle.items.specs.Name.{part}
 use Rattle.items.specs.Types.{size_of}
-use Rattle.grammar.specs.Meaning.{Dimension, Attribute, dimension, attribute}
 use Rattle.grammar.specs.declared.tables.Dim.{Dim}
 use Rattle.grammar.specs.declared.tables.Attr.{Attr}
 use Rattle.rules.specs.Rules.{spelled}

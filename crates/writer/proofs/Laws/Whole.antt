@@ -1,14 +1,13 @@
 -- What the code puts into its output is `encode` of what the tables say.
-use Prim.Native.Nat.{ℕ, zero, suc, ◌+◌, ◌-◌, ◌≤◌, ◌<◌}
+use Prim.Native.Nat.{ℕ, zero, suc, ◌+◌, ◌≤◌, ◌<◌}
 use native.Mathlib.Omega.{arith}
-use native.Mathlib.Nat.{zero-add}
-use mathlib.Core.Path.{◌≡◌, refl, sym, ap, subst, ◌∙◌}
+use mathlib.Core.Path.{◌≡◌, refl, sym, ap, ◌∙◌}
 use mathlib.Core.List.{List, [], ◌∷◌, ◌++◌, map, append_assoc, append-nil}
 use lib.ListN.{length, take, drop, get_or, replicate, length-drop, length-map}
 use lib.Seq.{length-take-le, get_or-take}
-use Rattle.cdf.specs.Form.{Form, form}
+use Rattle.cdf.specs.Form.{form}
 use Rattle.items.specs.Name.{part}
-use Rattle.grammar.specs.Meaning.{dimension, attribute, variable, item_of, contents, held, said}
+use Rattle.grammar.specs.Meaning.{dimension, attribute, variable, item_of, contents, held}
 use Rattle.grammar.specs.Tables.{no_dim, no_attr, no_var}
 use Rattle.grammar.specs.declared.tables.Dim.{Dim}
 use Rattle.grammar.specs.declared.tables.Attr.{Attr}
@@ -17,7 +16,7 @@ use Rattle.grammar.specs.declared.tables.Tables.{Tables}
 use Rattle.rules.specs.Rules.{spelled}
 use Rattle.rules.specs.Encode.{each, list_bytes, name_bytes, dim_bytes, attr_bytes, var_bytes, encode}
 use Rattle.order.specs.Writable.{to_write}
-use Rattle.writer.specs.Inner.Parts.{start_bytes, dim_out, attr_out, attrs_out, shape_out, tail_out, var_out, lists_out, header_out}
+use Rattle.writer.specs.Inner.Parts.{start_bytes, dim_out, attr_out, attrs_out, tail_out, var_out, lists_out, header_out}
 
 -- items seen through a function
 each-mapped : {A B : Type 0} (g : B → List ℕ) (mean : A → B) (h : A → List ℕ) (xs : List A) (d : A) → ((i : ℕ) → i < length xs → g (mean (get_or xs i d)) ≡ h (get_or xs i d)) → each g (map mean xs) ≡ each h xs

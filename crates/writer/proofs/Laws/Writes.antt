@@ -1,20 +1,17 @@
 -- Laws of what the writer answers.
-use Prim.Native.Nat.{ℕ, ◌+◌, ◌*◌, ◌≤◌, ◌<◌}
+use Prim.Native.Nat.{ℕ, ◌+◌, ◌≤◌, ◌<◌}
 use native.Mathlib.Omega.{arith}
 use native.Mathlib.Nat.{zero-add}
-use mathlib.Core.Path.{◌≡◌, refl, sym, ap, subst, ◌∙◌}
-use mathlib.Core.Bool.{Bool, true, false, ◌&&◌, not}
+use mathlib.Core.Path.{◌≡◌, refl, sym, ap, ◌∙◌}
+use mathlib.Core.Bool.{true, false}
 use mathlib.Core.List.{List, ◌++◌}
-use lib.ListN.{length, take, drop, get_or}
+use lib.ListN.{length, drop}
 use lib.Dec.{leb}
 use borrow.Author.Tests.{le-leb, lt-leb, leb-true}
-use Rattle.cdf.specs.Step.{Step, got, stop, Leaves}
-use Rattle.cdf.specs.Below.{between}
+use Rattle.cdf.specs.Step.{got, stop}
 use Rattle.cdf.proofs.Laws.Below.{both}
 use Rattle.cdf.proofs.Laws.Step.{by-true, by-false, leaves-stop, leaves-got}
-use Rattle.items.specs.Types.{size_of}
-use Rattle.grammar.specs.Tables.{no_attr, attr_at, var_at}
-use Rattle.grammar.specs.declared.tables.Attr.{Attr}
+use Rattle.grammar.specs.Tables.{attr_at, var_at}
 use Rattle.grammar.specs.declared.tables.Tables.{Tables}
 use Rattle.rules.specs.Encode.{encode}
 use Rattle.order.specs.Writable.{to_write, writable}
@@ -25,9 +22,8 @@ use Rattle.order.proofs.Laws.Rows.{FullRows}
 use Rattle.order.proofs.Laws.Said.{RowsAre, tested-rows, tested-is}
 use Rattle.order.proofs.Laws.Lengths.{encoded-length}
 use Rattle.writer.specs.Inner.Put.{Put}
-use Rattle.writer.specs.Inner.Parts.{header_out, AttrIn, VarIn, RowsIn}
+use Rattle.writer.specs.Inner.Parts.{header_out, AttrIn, RowsIn}
 use Rattle.writer.specs.Writes.{write_header, length_of, Writes}
-use Rattle.writer.specs.declared.header.Written.{Written}
 use Rattle.writer.proofs.Laws.Whole.{Enough, encode-out}
 
 module _ (s : List ℕ) (t : Tables) (out : List ℕ) where

@@ -1,7 +1,6 @@
 use Rattle.cdf.proofs.Laws.ListStart.{start-absent, start-short, start-tag, start-bad, tag-inside}
 use mathlib.Core.Path.{sym, ◌∙◌}
 use native.Mathlib.Omega.{arith}
-use borrow.Author.Rules.{rules}
 use Rattle.cdf.proofs.list.parse_list_start.Goals as goal
 
 pub returns-then-n-at-lt8 : goal.returns-then-n-at-lt8

@@ -1,10 +1,6 @@
-use borrow.Author.Rules.{rules}
 use Rattle.cdf.proofs.Laws.Padding.{zeros-all, zeros-not}
-use lib.ListN.{get_or}
 use borrow.Author.Count.{below_none, below_more}
 use native.Mathlib.Omega.{arith}
-use mathlib.Core.Path.{◌≡◌}
-use Prim.Native.Nat.{ℕ, ◌+◌, ◌-◌, ◌≤◌, ◌<◌}
 use Rattle.cdf.proofs.padding.all_zero.Goals as goal
 
 pub loop-i-init : goal.loop-i-init

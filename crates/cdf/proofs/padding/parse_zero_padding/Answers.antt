@@ -1,7 +1,6 @@
 use mathlib.Core.Path.{sym, ◌∙◌}
 use Rattle.cdf.proofs.Laws.Padding.{padding-got, padding-short, padding-bad}
 use native.Mathlib.Omega.{arith}
-use borrow.Author.Rules.{rules}
 use Rattle.cdf.proofs.padding.parse_zero_padding.Goals as goal
 
 pub returns-then-n-at : goal.returns-then-n-at

@@ -1,11 +1,5 @@
-use Rattle.cdf.proofs.Laws.Below.{order}
-use borrow.Author.Rules.{rules}
-use Rattle.cdf.proofs.Laws.Magic.{begins-all, begins-not}
 use lib.ListN.{length, get_or}
-use borrow.Author.Count.{below_none, below_more}
-use mathlib.Core.Logic.{inl, inr, ⊎_elim}
 use mathlib.Core.Path.{◌≡◌}
-use native.Mathlib.Omega.{arith}
 use Prim.Native.Nat.{ℕ, ◌+◌, ◌-◌, ◌≤◌, ◌<◌}
 use Rattle.cdf.proofs.version.begins.Given as goal
 

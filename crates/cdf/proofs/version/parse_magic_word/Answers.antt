@@ -1,6 +1,5 @@
 use Rattle.cdf.proofs.Laws.Magic.{magic-got, magic-short, magic-bad}
 use mathlib.Core.Path.{sym, ◌∙◌}
-use borrow.Author.Rules.{rules}
 use Rattle.cdf.proofs.version.parse_magic_word.Goals as goal
 
 pub returns-then-n-lt3 : goal.returns-then-n-lt3

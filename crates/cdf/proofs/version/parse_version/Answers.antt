@@ -1,7 +1,6 @@
 use Rattle.cdf.proofs.Laws.Magic.{version_byte-got, version_byte-short, version_byte-bad}
 use mathlib.Core.Path.{refl, sym, ◌∙◌}
 use native.Mathlib.Omega.{arith}
-use borrow.Author.Rules.{rules}
 use Rattle.cdf.proofs.version.parse_version.Goals as goal
 
 pub returns-then-n-at : goal.returns-then-n-at

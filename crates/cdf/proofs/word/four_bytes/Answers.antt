@@ -1,6 +1,5 @@
 use Rattle.cdf.proofs.Laws.Word.{word-short, word_got}
 use native.Mathlib.Omega.{arith}
-use borrow.Author.Rules.{rules}
 use Rattle.cdf.proofs.word.four_bytes.Goals as goal
 
 pub returns-then-n-at-lt4 : goal.returns-then-n-at-lt4

@@ -1,7 +1,6 @@
 use Rattle.cdf.proofs.Laws.Word.{non_negative-stop, non_negative-got, non_negative-bad}
 use Rattle.cdf.specs.Inner.Answers.{of_word}
 use mathlib.Core.Path.{sym, ap, ◌∙◌}
-use borrow.Author.Rules.{rules}
 use Rattle.cdf.proofs.word.parse_non_neg.Goals as goal
 
 pub returns-in-Stop : goal.returns-in-Stop

@@ -4,7 +4,6 @@ use Rattle.bigendian.proofs.Laws.Number.{extended-low, extended-high, be-fits}
 use borrow.Author.Tests.{eq-eqb, ne_eqb}
 use Rattle.cdf.specs.Inner.Answers.{of_word}
 use mathlib.Core.Path.{sym, ap, ◌∙◌}
-use borrow.Author.Rules.{rules}
 use Rattle.cdf.proofs.word.parse_offset.Goals as goal
 
 pub returns-then-version-ne1 : goal.returns-then-version-ne1

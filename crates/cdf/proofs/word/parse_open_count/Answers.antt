@@ -1,7 +1,6 @@
 use Rattle.cdf.proofs.Laws.Word.{open_count-stop, open_count-got, open_count-open, open_count-bad}
 use Rattle.cdf.specs.Inner.Answers.{of_word}
 use mathlib.Core.Path.{sym, ap, ◌∙◌}
-use borrow.Author.Rules.{rules}
 use Rattle.cdf.proofs.word.parse_open_count.Goals as goal
 
 pub returns-then-v-lt-FIRST_NEGATIVE : goal.returns-then-v-lt-FIRST_NEGATIVE

@@ -1,12 +1,7 @@
-use Prim.Native.Nat.{ℕ, ◌-◌, ◌≤◌, ◌<◌}
 use native.Mathlib.Omega.{arith}
-use mathlib.Core.Path.{◌≡◌}
-use mathlib.Core.Bool.{true}
-use lib.Dec.{ltb, leb}
 use borrow.Author.Rules.{rules}
-use borrow.Author.Tests.{lt-ltb, le-ltb, lt-leb, le-leb}
+use borrow.Author.Tests.{lt-leb, le-leb}
 use borrow.Author.Count.{below_none, below_more}
-use Rattle.grammar.specs.Tables.{var_at}
 use Rattle.order.proofs.Laws.Chain.{row-fails, rows-hold}
 use Rattle.convert.proofs.begins.begins_behind.Goals as goal
 

@@ -1,13 +1,8 @@
 use Prim.Native.Nat.{ℕ, ◌-◌, ◌≤◌, ◌<◌}
-use native.Mathlib.Omega.{arith}
 use mathlib.Core.Path.{◌≡◌}
 use mathlib.Core.Bool.{true}
-use lib.Dec.{ltb, leb}
-use borrow.Author.Rules.{rules}
-use borrow.Author.Tests.{lt-ltb, le-ltb, lt-leb, le-leb}
-use borrow.Author.Count.{below_none, below_more}
+use lib.Dec.{ltb}
 use Rattle.grammar.specs.Tables.{var_at}
-use Rattle.order.proofs.Laws.Chain.{row-fails, rows-hold}
 use Rattle.convert.proofs.begins.begins_below.Given as goal
 
 abbrev pub invariant-loop-i : goal.invariant-loop-i

@@ -1,13 +1,9 @@
-use Prim.Native.Nat.{ℕ, ◌+◌, ◌-◌, ◌≤◌, ◌<◌}
-use native.Mathlib.Omega.{arith}
-use mathlib.Core.Path.{◌≡◌, refl, sym, ap, subst, ◌∙◌}
-use lib.ListN.{length, get_or, length-set}
-use borrow.Author.Rules.{rules}
+use Prim.Native.Nat.{◌-◌, ◌≤◌}
+use mathlib.Core.Path.{◌≡◌}
+use lib.ListN.{length}
 use Rattle.grammar.specs.Tables.{no_var}
-use Rattle.grammar.specs.declared.tables.Var.{Var}
-use Rattle.convert.specs.Convert.{moved, moved_var, moved_tables}
-use Rattle.order.proofs.Laws.Rows.{full-rows}
-use Rattle.convert.proofs.Laws.Moved.{up_to, still-row, one_more}
+use Rattle.convert.specs.Convert.{moved, moved_var}
+use Rattle.convert.proofs.Laws.Moved.{up_to}
 use Rattle.convert.proofs.begins.moved_tables.Given as goal
 
 abbrev pub invariant-loop-i : goal.invariant-loop-i

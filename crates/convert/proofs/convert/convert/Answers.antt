@@ -1,5 +1,3 @@
-use mathlib.Core.Path.{◌≡◌, refl}
-use borrow.Author.Rules.{rules}
 use Rattle.convert.proofs.Laws.Convert.{header_refused, header_read}
 use Rattle.convert.proofs.convert.convert.Goals as goal
 

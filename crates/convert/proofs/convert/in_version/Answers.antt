@@ -1,9 +1,5 @@
 use native.Mathlib.Omega.{arith}
 use Prim.Native.Nat.{◌≤◌}
-use mathlib.Core.Path.{◌≡◌, sym, ap, subst}
-use borrow.Author.Rules.{rules}
-use Rattle.grammar.specs.declared.tables.Tables.{Tables}
-use Rattle.grammar.specs.Inner.Within.{Shaped}
 use Rattle.sizes.specs.Records.{max_position}
 use Rattle.order.proofs.Laws.Chain.{fails, holds}
 use Rattle.convert.specs.Convert.{new_tables}

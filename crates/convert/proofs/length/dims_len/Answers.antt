@@ -1,9 +1,6 @@
-use Prim.Native.Nat.{ℕ, ◌+◌, ◌-◌, ◌*◌, ◌≤◌}
-use mathlib.Core.Path.{◌≡◌, ap}
+use Prim.Native.Nat.{ℕ, ◌+◌}
+use mathlib.Core.Path.{ap}
 use native.Mathlib.Omega.{arith}
-use Rattle.sizes.specs.Records.{total}
-use Rattle.grammar.specs.Tables.{dim_at}
-use Rattle.order.specs.Inner.Lengths.{dim_length}
 use Rattle.order.proofs.Laws.Sums.{sum-none, sum_more, dims-all}
 use borrow.Author.Rules.{rules}
 use Rattle.convert.proofs.length.dims_len.Goals as goal

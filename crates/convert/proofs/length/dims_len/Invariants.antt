@@ -1,11 +1,8 @@
-use Prim.Native.Nat.{ℕ, ◌+◌, ◌-◌, ◌*◌, ◌≤◌}
-use mathlib.Core.Path.{◌≡◌, ap}
-use native.Mathlib.Omega.{arith}
+use Prim.Native.Nat.{◌-◌, ◌*◌, ◌≤◌}
+use mathlib.Core.Path.{◌≡◌}
 use Rattle.sizes.specs.Records.{total}
 use Rattle.grammar.specs.Tables.{dim_at}
 use Rattle.order.specs.Inner.Lengths.{dim_length}
-use Rattle.order.proofs.Laws.Sums.{sum-none, sum_more, dims-all}
-use borrow.Author.Rules.{rules}
 use Rattle.convert.proofs.length.dims_len.Given as goal
 
 abbrev pub invariant-loop-i : goal.invariant-loop-i

@@ -1,10 +1,4 @@
-use Prim.Native.Nat.{◌+◌, ◌-◌, ◌*◌, ◌≤◌}
-use mathlib.Core.Path.{◌≡◌}
 use native.Mathlib.Omega.{arith}
-use lib.ListN.{get_or}
-use Rattle.sizes.specs.Records.{total}
-use Rattle.grammar.specs.Tables.{no_attr}
-use Rattle.order.specs.Inner.Lengths.{attr_length}
 use Rattle.order.proofs.Laws.Sums.{sum-none, sum_more, length-from-zero, attrs-all}
 use borrow.Author.Rules.{rules}
 use Rattle.convert.proofs.length.globals_len.Goals as goal

@@ -1,10 +1,5 @@
-use Prim.Native.Nat.{◌+◌, ◌-◌, ◌*◌, ◌≤◌}
-use mathlib.Core.Path.{◌≡◌, refl}
+use mathlib.Core.Path.{refl}
 use native.Mathlib.Omega.{arith}
-use lib.ListN.{get_or}
-use Rattle.sizes.specs.Records.{total}
-use Rattle.grammar.specs.Tables.{no_attr, var_at}
-use Rattle.order.specs.Inner.Lengths.{attr_length, var_length}
 use Rattle.order.proofs.Laws.Sums.{sum-none, sum_more, attrs-all, var-all, vars-all}
 use borrow.Author.Rules.{rules}
 use Rattle.convert.proofs.length.vars_len.Goals as goal

@@ -1,12 +1,9 @@
 use Prim.Native.Nat.{◌+◌, ◌-◌, ◌*◌, ◌≤◌}
-use mathlib.Core.Path.{◌≡◌, refl}
-use native.Mathlib.Omega.{arith}
+use mathlib.Core.Path.{◌≡◌}
 use lib.ListN.{get_or}
 use Rattle.sizes.specs.Records.{total}
 use Rattle.grammar.specs.Tables.{no_attr, var_at}
 use Rattle.order.specs.Inner.Lengths.{attr_length, var_length}
-use Rattle.order.proofs.Laws.Sums.{sum-none, sum_more, attrs-all, var-all, vars-all}
-use borrow.Author.Rules.{rules}
 use Rattle.convert.proofs.length.vars_len.Given as goal
 
 abbrev pub invariant-loop-k : goal.invariant-loop-k

@@ -1,6 +1,5 @@
 use native.Mathlib.Omega.{arith}
 use mathlib.Core.Path.{refl}
-use borrow.Author.Rules.{rules}
 use Rattle.crossing.specs.Words.{attr_of}
 use Rattle.crossing.proofs.Laws.Fits.{attr-in}
 use Rattle.crossing.proofs.load.attr_of.Goals as goal

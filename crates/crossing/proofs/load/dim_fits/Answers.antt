@@ -1,4 +1,3 @@
-use borrow.Author.Rules.{rules}
 use borrow.Author.Tests.{le-ltb, lt-ltb}
 use Rattle.crossing.specs.Words.{dim_of, dim_in_fields}
 use Rattle.crossing.proofs.load.dim_fits.Goals as goal

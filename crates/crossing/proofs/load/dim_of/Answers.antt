@@ -1,6 +1,5 @@
 use native.Mathlib.Omega.{arith}
 use mathlib.Core.Path.{refl}
-use borrow.Author.Rules.{rules}
 use Rattle.crossing.specs.Words.{dim_of}
 use Rattle.crossing.proofs.Laws.Fits.{dim-in}
 use Rattle.crossing.proofs.load.dim_of.Goals as goal

@@ -1,11 +1,8 @@
-use Prim.Native.Nat.{◌+◌, ◌-◌, ◌≤◌}
 use native.Mathlib.Omega.{arith}
-use mathlib.Core.Path.{◌≡◌, refl, ap, ◌∙◌}
-use lib.ListN.{length}
+use mathlib.Core.Path.{refl, ap, ◌∙◌}
 use borrow.Author.Rules.{rules}
 use Rattle.bigendian.specs.Lists.{tab}
-use Rattle.decode.proofs.Laws.Filled.{Filled, filled_none, filled_more, filled-all}
-use Rattle.crossing.specs.Words.{word_at}
+use Rattle.decode.proofs.Laws.Filled.{filled_none, filled_more, filled-all}
 use Rattle.crossing.proofs.Laws.Fits.{id-in}
 use Rattle.crossing.proofs.load.ids_of.Goals as goal
 

@@ -1,12 +1,8 @@
 use Prim.Native.Nat.{◌+◌, ◌-◌, ◌≤◌}
-use native.Mathlib.Omega.{arith}
-use mathlib.Core.Path.{◌≡◌, refl, ap, ◌∙◌}
+use mathlib.Core.Path.{◌≡◌}
 use lib.ListN.{length}
-use borrow.Author.Rules.{rules}
-use Rattle.bigendian.specs.Lists.{tab}
-use Rattle.decode.proofs.Laws.Filled.{Filled, filled_none, filled_more, filled-all}
+use Rattle.decode.proofs.Laws.Filled.{Filled}
 use Rattle.crossing.specs.Words.{word_at}
-use Rattle.crossing.proofs.Laws.Fits.{id-in}
 use Rattle.crossing.proofs.load.ids_of.Given as goal
 
 abbrev pub invariant-loop-k : goal.invariant-loop-k

@@ -1,9 +1,6 @@
 use Prim.Native.Nat.{◌+◌, ◌-◌, ◌*◌}
-use mathlib.Core.Path.{refl, sym, ◌∙◌}
-use borrow.Author.Rules.{rules}
-use borrow.Author.Tests.{not-true, not-false}
 use Rattle.crossing.specs.Words.{dim_of, dim_in_fields}
-use Rattle.crossing.proofs.Laws.Loading.{Loading, loading-none, loading-more, loading-stop, loading-all}
+use Rattle.crossing.proofs.Laws.Loading.{Loading}
 use Rattle.crossing.proofs.load.load_dims.Given as goal
 
 abbrev pub invariant-loop-i : goal.invariant-loop-i

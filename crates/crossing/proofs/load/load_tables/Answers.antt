@@ -1,5 +1,4 @@
 use mathlib.Core.Path.{sym, ap, ◌∙◌}
-use borrow.Author.Rules.{rules}
 use borrow.Author.Tests.{not-true, not-false}
 use Rattle.cdf.specs.Step.{number_of, given_or}
 use Rattle.grammar.specs.Tables.{blank}

@@ -1,5 +1,4 @@
 use mathlib.Core.Path.{sym, ◌∙◌}
-use borrow.Author.Rules.{rules}
 use borrow.Author.Tests.{le-ltb, lt-ltb}
 use Rattle.crossing.specs.Words.{var_of, var_in_fields}
 use Rattle.crossing.proofs.Laws.Fits.{by-ids}

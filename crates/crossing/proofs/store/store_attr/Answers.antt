@@ -1,6 +1,5 @@
 use native.Mathlib.Omega.{arith}
 use lib.ListN.{length-set}
-use borrow.Author.Rules.{rules}
 use Rattle.crossing.specs.Words.{attr_words}
 use Rattle.crossing.proofs.Laws.Joined.{all_set}
 use Rattle.crossing.proofs.store.store_attr.Goals as goal

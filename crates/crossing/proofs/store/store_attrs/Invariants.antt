@@ -1,10 +1,9 @@
 use Prim.Native.Nat.{◌-◌}
 use mathlib.Core.Path.{◌≡◌}
 use lib.ListN.{length, get_or}
-use borrow.Author.Rules.{rules}
 use Rattle.grammar.specs.Tables.{no_attr}
 use Rattle.crossing.specs.Words.{attr_words}
-use Rattle.crossing.proofs.Laws.Joined.{wide-attr, Rows, rows_none, rows_all, rows_more}
+use Rattle.crossing.proofs.Laws.Joined.{Rows}
 use Rattle.crossing.proofs.store.store_attrs.Given as goal
 
 abbrev pub invariant-loop-i : goal.invariant-loop-i

@@ -1,4 +1,3 @@
-use borrow.Author.Rules.{rules}
 use Rattle.crossing.specs.Words.{dim_words}
 use Rattle.crossing.proofs.Laws.Joined.{all_set}
 use Rattle.crossing.proofs.store.store_dim.Goals as goal

@@ -1,9 +1,7 @@
 use Prim.Native.Nat.{◌-◌, ◌≤◌}
-use mathlib.Core.Path.{◌≡◌, refl, ap, ◌∙◌}
+use mathlib.Core.Path.{◌≡◌}
 use lib.ListN.{length, get_or}
-use borrow.Author.Rules.{rules}
-use Rattle.bigendian.specs.Lists.{tab}
-use Rattle.decode.proofs.Laws.Filled.{Filled, filled_none, filled_more, filled-all}
+use Rattle.decode.proofs.Laws.Filled.{Filled}
 use Rattle.crossing.proofs.store.store_ids.Given as goal
 
 abbrev pub invariant-loop-k : goal.invariant-loop-k

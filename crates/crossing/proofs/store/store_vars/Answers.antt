@@ -1,10 +1,5 @@
-use Prim.Native.Nat.{◌-◌}
-use mathlib.Core.Path.{◌≡◌}
-use lib.ListN.{length, get_or}
 use borrow.Author.Rules.{rules}
-use Rattle.grammar.specs.Tables.{no_var}
-use Rattle.crossing.specs.Words.{var_words}
-use Rattle.crossing.proofs.Laws.Joined.{wide-var, Rows, rows_none, rows_all, rows_more}
+use Rattle.crossing.proofs.Laws.Joined.{wide-var, rows_none, rows_all, rows_more}
 use Rattle.crossing.proofs.store.store_vars.Goals as goal
 
 pub loop-i-init : goal.loop-i-init

@@ -1,11 +1,8 @@
-use borrow.Author.Rules.{rules}
 use Prim.Native.Nat.{◌-◌}
-use mathlib.Core.Path.{ap, ◌∙◌}
-use lib.Ieee.{binary32, of_bits}
 use lib.ListN.{length}
 use Rattle.decode.specs.Decoded.{float}
 use Rattle.decode.specs.Inner.Chunks.{of_chunk}
-use Rattle.decode.proofs.Laws.Filled.{Filled, filled_none, filled_more, filled-all}
+use Rattle.decode.proofs.Laws.Filled.{Filled}
 use Rattle.decode.proofs.chunk.decode_f32.Given as goal
 
 abbrev pub invariant-loop-i : goal.invariant-loop-i

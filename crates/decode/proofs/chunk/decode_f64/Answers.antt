@@ -1,11 +1,6 @@
-use borrow.Author.Rules.{rules}
-use Prim.Native.Nat.{◌-◌}
 use mathlib.Core.Path.{ap, ◌∙◌}
 use lib.Ieee.{binary64, of_bits}
-use lib.ListN.{length}
-use Rattle.decode.specs.Decoded.{double}
-use Rattle.decode.specs.Inner.Chunks.{of_chunk}
-use Rattle.decode.proofs.Laws.Filled.{Filled, filled_none, filled_more, filled-all}
+use Rattle.decode.proofs.Laws.Filled.{filled_none, filled_more, filled-all}
 use Rattle.decode.proofs.chunk.decode_f64.Goals as goal
 
 pub loop-i-init : goal.loop-i-init

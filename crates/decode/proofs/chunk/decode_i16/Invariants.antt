@@ -1,16 +1,7 @@
-use borrow.Author.Rules.{rules}
-use Prim.Native.Nat.{ℕ, ◌-◌, ◌*◌, ◌≤◌}
-use mathlib.Core.Path.{◌∙◌, refl, ap, subst}
-use native.Mathlib.Omega.{arith}
-use mir.Syntax.{w16}
-use lib.ListN.{length-set}
-use Rattle.bigendian.specs.Number.{be}
-use Rattle.bigendian.specs.Lists.{tab}
+use Prim.Native.Nat.{◌-◌, ◌*◌, ◌≤◌}
 use Rattle.decode.specs.Decoded.{short}
 use Rattle.decode.specs.Inner.Chunks.{of_chunk}
-use Rattle.decode.proofs.Laws.Decoded.{stored}
-use Rattle.decode.proofs.Laws.Pairs.{pairs}
-use Rattle.decode.proofs.Laws.Filled.{Filled, filled_none, filled-since, filled_on, filled-four, filled-all}
+use Rattle.decode.proofs.Laws.Filled.{Filled}
 use Rattle.decode.proofs.chunk.decode_i16.Given as goal
 
 abbrev pub invariant-loop-j : goal.invariant-loop-j

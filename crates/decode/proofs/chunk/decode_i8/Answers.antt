@@ -1,11 +1,6 @@
-use borrow.Author.Rules.{rules}
-use Prim.Native.Nat.{◌-◌}
 use mir.Syntax.{w8}
-use lib.ListN.{length}
-use Rattle.decode.specs.Decoded.{byte}
-use Rattle.decode.specs.Inner.Chunks.{of_chunk}
 use Rattle.decode.proofs.Laws.Decoded.{one_byte, stored}
-use Rattle.decode.proofs.Laws.Filled.{Filled, filled_none, filled_more, filled-all}
+use Rattle.decode.proofs.Laws.Filled.{filled_none, filled_more, filled-all}
 use Rattle.decode.proofs.chunk.decode_i8.Goals as goal
 
 pub loop-i-init : goal.loop-i-init

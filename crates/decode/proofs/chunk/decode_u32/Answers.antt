@@ -1,9 +1,4 @@
-use borrow.Author.Rules.{rules}
-use Prim.Native.Nat.{◌-◌}
-use lib.ListN.{length}
-use Rattle.decode.specs.Decoded.{raw}
-use Rattle.decode.specs.Inner.Chunks.{of_chunk}
-use Rattle.decode.proofs.Laws.Filled.{Filled, filled_none, filled_more, filled-all}
+use Rattle.decode.proofs.Laws.Filled.{filled_none, filled_more, filled-all}
 use Rattle.decode.proofs.chunk.decode_u32.Goals as goal
 
 pub loop-i-init : goal.loop-i-init

@@ -1,4 +1,3 @@
-use borrow.Author.Rules.{rules}
 use lib.Ieee.{binary32}
 use Rattle.decode.proofs.Laws.Decoded.{nan_pattern, no-nan-pattern}
 use Rattle.decode.proofs.pattern.f32_of.Goals as goal

@@ -1,4 +1,3 @@
-use borrow.Author.Rules.{rules}
 use lib.Ieee.{binary64}
 use Rattle.decode.proofs.Laws.Decoded.{nan_pattern, no-nan-pattern}
 use Rattle.decode.proofs.pattern.f64_of.Goals as goal

@@ -1,6 +1,5 @@
 use native.Mathlib.Omega.{arith}
 use Rattle.decode.proofs.Laws.Room.{product-zero, product-div}
-use borrow.Author.Rules.{rules}
 use Rattle.decode.proofs.room.product_within.Goals as goal
 
 pub returns-then-b-eq0 : goal.returns-then-b-eq0

@@ -1,5 +1,4 @@
 use Rattle.decode.proofs.Laws.Pairs.{be-2}
-use borrow.Author.Rules.{rules}
 use Rattle.decode.proofs.short.be16.Goals as goal
 
 pub returns : goal.returns

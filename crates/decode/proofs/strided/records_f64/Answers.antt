@@ -1,5 +1,5 @@
 use borrow.Author.Rules.{rules}
-use Prim.Native.Nat.{ℕ, ◌+◌, ◌-◌, ◌*◌, ◌≤◌}
+use Prim.Native.Nat.{ℕ, ◌+◌, ◌*◌, ◌≤◌}
 use native.Mathlib.Omega.{arith}
 use mathlib.Core.Path.{ap, ◌∙◌}
 use mathlib.Core.List.{◌++◌}
@@ -9,7 +9,7 @@ use Rattle.bigendian.specs.Lists.{grid}
 use Rattle.decode.specs.Decoded.{double}
 use Rattle.decode.specs.Inner.Chunks.{of_record}
 use Rattle.bigendian.proofs.Laws.Lists.{row_in}
-use Rattle.decode.proofs.Laws.Tabled.{Tabled, tabled-none, tabled-more, row-of-part}
+use Rattle.decode.proofs.Laws.Tabled.{tabled-none, tabled-more, row-of-part}
 use Rattle.decode.proofs.strided.records_f64.Goals as goal
 
 pub loop-k-init : goal.loop-k-init

@@ -1,15 +1,7 @@
-use borrow.Author.Rules.{rules}
-use Prim.Native.Nat.{ℕ, ◌+◌, ◌-◌, ◌*◌, ◌≤◌}
-use native.Mathlib.Omega.{arith}
-use mathlib.Core.Path.{ap, ◌∙◌}
-use mathlib.Core.List.{◌++◌}
-use lib.ListN.{length, drop}
-use borrow.Rule.Slice.PartMut.{mid_len}
-use Rattle.bigendian.specs.Lists.{grid}
+use Prim.Native.Nat.{◌-◌, ◌≤◌}
 use Rattle.decode.specs.Decoded.{byte}
 use Rattle.decode.specs.Inner.Chunks.{of_record}
-use Rattle.bigendian.proofs.Laws.Lists.{row_in}
-use Rattle.decode.proofs.Laws.Tabled.{Tabled, tabled-none, tabled-more, row-of-part}
+use Rattle.decode.proofs.Laws.Tabled.{Tabled}
 use Rattle.decode.proofs.strided.records_i8.Given as goal
 
 abbrev pub invariant-loop-k : goal.invariant-loop-k

@@ -1,7 +1,6 @@
 use Rattle.outputs.proofs.Laws.Outputs.{converted-refused, converted-told}
 use Rattle.outputs.proofs.Laws.Numbers.{convert-numbered}
 use Rattle.convert.specs.Convert.{convert}
-use borrow.Author.Rules.{rules}
 use Rattle.exports.proofs.converted.fungal_narrow.Goals as goal
 
 pub returns-then-answer-ne0 : goal.returns-then-answer-ne0

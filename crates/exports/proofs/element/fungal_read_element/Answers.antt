@@ -3,7 +3,6 @@ use Rattle.found.specs.declared.variable.Spread.{Spread}
 use Rattle.reads.specs.Element.{of_told, bits_from}
 use Rattle.cdf.specs.Step.{Step}
 use mathlib.Core.Path.{sym, ap, ◌∙◌}
-use borrow.Author.Rules.{rules}
 use Rattle.exports.proofs.element.fungal_read_element.Goals as goal
 
 pub returns-in-Refused : goal.returns-in-Refused

@@ -2,7 +2,6 @@ use Rattle.exports.proofs.Laws.Reader.{load-stop, load-got}
 use Rattle.outputs.proofs.Laws.Outputs.{guest-is}
 use Rattle.guest32.specs.Guest.{guest32, of_answer}
 use mathlib.Core.Path.{sym, ap, ◌∙◌}
-use borrow.Author.Rules.{rules}
 use Rattle.exports.proofs.guest.fungal_guest32.Goals as goal
 
 pub returns-then-loaded-ne0 : goal.returns-then-loaded-ne0

@@ -2,7 +2,6 @@ use Rattle.exports.proofs.Laws.Reader.{load-stop, load-got}
 use Rattle.outputs.proofs.Laws.Outputs.{number_is}
 use Rattle.lookup.specs.Lookup.{find_var, of_found}
 use mathlib.Core.Path.{sym, ap, ◌∙◌}
-use borrow.Author.Rules.{rules}
 use Rattle.exports.proofs.names.fungal_find_var.Goals as goal
 
 pub returns-then-loaded-ne0 : goal.returns-then-loaded-ne0

@@ -5,7 +5,6 @@ use Rattle.lookup.proofs.Laws.Lookup.{few, name-says, name-got}
 use Rattle.lookup.specs.Lookup.{name_of}
 use native.Mathlib.Omega.{arith}
 use mathlib.Core.Path.{sym, ◌∙◌}
-use borrow.Author.Rules.{rules}
 use Rattle.exports.proofs.names.fungal_var_name.Goals as goal
 
 pub returns-then-loaded-ne0 : goal.returns-then-loaded-ne0

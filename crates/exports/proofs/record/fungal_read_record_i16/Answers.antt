@@ -1,7 +1,6 @@
 use Rattle.outputs.proofs.Laws.Outputs.{of-found}
 use Rattle.reads.specs.Reads.{record_from}
 use Rattle.decode.specs.Decoded.{short}
-use borrow.Author.Rules.{rules}
 use Rattle.exports.proofs.record.fungal_read_record_i16.Goals as goal
 
 pub returns : goal.returns

@@ -1,7 +1,6 @@
 use Rattle.header.specs.Header.{read_header}
 use Rattle.header.specs.declared.reader.Header.{Header}
 use mathlib.Core.Path.{ap, ◌∙◌}
-use borrow.Author.Rules.{rules}
 use Rattle.exports.proofs.tables.fungal_header_place.Goals as goal
 
 pub returns : goal.returns

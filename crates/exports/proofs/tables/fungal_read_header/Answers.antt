@@ -1,7 +1,6 @@
 use Rattle.header.specs.Header.{read_header}
 use Rattle.exports.proofs.Laws.Reader.{header_refused, header-full, header-told}
 use mathlib.Core.Path.{ap, ◌∙◌}
-use borrow.Author.Rules.{rules}
 use Rattle.exports.proofs.tables.fungal_read_header.Goals as goal
 
 pub returns-then-h-ne0 : goal.returns-then-h-ne0

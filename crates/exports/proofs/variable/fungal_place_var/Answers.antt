@@ -4,7 +4,6 @@ use Rattle.found.specs.Sought.{of_sought, sought}
 use Rattle.cdf.proofs.Laws.Step.{by-got, by-stop, leaves-stop}
 use Rattle.cdf.specs.Step.{bind, number_of, given_or}
 use mathlib.Core.Path.{refl, sym, ap, ◌∙◌}
-use borrow.Author.Rules.{rules}
 use Rattle.exports.proofs.variable.fungal_place_var.Goals as goal
 
 pub returns-then-loaded-ne0 : goal.returns-then-loaded-ne0

@@ -1,7 +1,6 @@
 use Rattle.exports.proofs.Laws.Variable.{placed-short, placed-got}
 use native.Mathlib.Omega.{arith}
 use lib.ListN.{length-set}
-use borrow.Author.Rules.{rules}
 use Rattle.exports.proofs.variable.put.Goals as goal
 
 pub returns-then-out-lt-WORDS : goal.returns-then-out-lt-WORDS

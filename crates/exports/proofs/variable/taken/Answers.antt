@@ -2,7 +2,6 @@ use Rattle.exports.proofs.Laws.Variable.{taken-few, taken-low, taken-high, taken
 use Rattle.exports.specs.Variable.{spread_of}
 use Rattle.items.specs.Types.{size_of}
 use mathlib.Core.Path.{ap, ◌∙◌}
-use borrow.Author.Rules.{rules}
 use Rattle.exports.proofs.variable.taken.Goals as goal
 
 pub returns-then-words-lt-WORDS : goal.returns-then-words-lt-WORDS

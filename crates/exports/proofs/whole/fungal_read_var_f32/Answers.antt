@@ -1,7 +1,6 @@
 use Rattle.outputs.proofs.Laws.Outputs.{of-found}
 use Rattle.reads.specs.Reads.{whole_from}
 use Rattle.decode.specs.Decoded.{raw}
-use borrow.Author.Rules.{rules}
 use Rattle.exports.proofs.whole.fungal_read_var_f32.Goals as goal
 
 pub returns : goal.returns

@@ -1,5 +1,4 @@
 use Rattle.exports.proofs.Laws.Reader.{write-none, write-refused, write-told}
-use borrow.Author.Rules.{rules}
 use Rattle.exports.proofs.written.fungal_write_header.Goals as goal
 
 pub returns-then-loaded-ne0 : goal.returns-then-loaded-ne0

@@ -1,4 +1,3 @@
-use borrow.Author.Rules.{rules}
 use native.Mathlib.Omega.{arith}
 use Rattle.found.proofs.Laws.Sought.{row-rank, row_low, row-high}
 use Rattle.found.proofs.tested.row_holds.Goals as goal

@@ -1,13 +1,8 @@
 use Prim.Native.Nat.{ℕ, ◌-◌, ◌≤◌, ◌<◌}
 use mathlib.Core.Bool.{true}
-use mathlib.Core.Path.{◌≡◌, sym, ◌∙◌}
-use native.Mathlib.Omega.{arith}
-use borrow.Author.Rules.{rules}
-use borrow.Author.Tests.{not-true, not-false}
-use borrow.Author.Count.{below_none, below_more}
+use mathlib.Core.Path.{◌≡◌}
 use Rattle.grammar.specs.Tables.{var_at}
 use Rattle.found.specs.Inner.Row.{row_holds}
-use Rattle.found.proofs.Laws.Sought.{shape-dims, shape-vars, shape_row, shape-all}
 use Rattle.found.proofs.tested.shape_holds.Given as goal
 
 abbrev pub invariant-loop-i : goal.invariant-loop-i

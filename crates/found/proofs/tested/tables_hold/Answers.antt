@@ -4,7 +4,6 @@ use Rattle.sizes.specs.declared.records.Sizes.{Sizes}
 use Rattle.sizes.proofs.Laws.Count.{ends_by}
 use Rattle.sizes.proofs.Laws.Records.{never}
 use Rattle.found.proofs.Laws.Sought.{shaped, tables-shape, tables-ids, tables-sizes, tables-ends}
-use borrow.Author.Rules.{rules}
 use Rattle.found.proofs.tested.tables_hold.Goals as goal
 
 pub returns-then-not-shape_holds : goal.returns-then-not-shape_holds

@@ -2,7 +2,6 @@ use Rattle.items.specs.Types.{size_of}
 use mathlib.Core.Bool.{Bool, cond}
 use mathlib.Core.Path.{ap, ◌∙◌}
 use Rattle.found.proofs.Laws.Sought.{described}
-use borrow.Author.Rules.{rules}
 use Rattle.found.proofs.variable.described.Goals as goal
 
 pub returns : goal.returns

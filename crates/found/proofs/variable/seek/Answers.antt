@@ -3,7 +3,6 @@ use mathlib.Core.Path.{sym, ◌∙◌}
 use native.Mathlib.Omega.{arith}
 use Rattle.sizes.proofs.Laws.Records.{ids-below}
 use Rattle.found.proofs.Laws.Sought.{tables-parts, chunk_small, sought-tables, sought-none, sought-got}
-use borrow.Author.Rules.{rules}
 use Rattle.found.proofs.variable.seek.Goals as goal
 
 pub returns-then-not-tested : goal.returns-then-not-tested

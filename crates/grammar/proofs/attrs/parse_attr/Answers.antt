@@ -5,7 +5,6 @@ use Rattle.cdf.proofs.Laws.Step.{got-ends, by-got, by-stop}
 use Rattle.cdf.specs.Inner.Answers.{of_word}
 use native.Mathlib.Omega.{arith}
 use mathlib.Core.Path.{sym, ap, ◌∙◌}
-use borrow.Author.Rules.{rules}
 use Rattle.grammar.proofs.attrs.parse_attr.Goals as goal
 
 pub overflow_cast-chars : goal.overflow_cast-chars

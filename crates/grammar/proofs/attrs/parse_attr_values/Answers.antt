@@ -8,7 +8,6 @@ use Rattle.cdf.specs.Inner.Answers.{of_next, of_word}
 use native.Mathlib.Omega.{arith}
 use Prim.Native.Nat.{ℕ, ◌≤◌}
 use mathlib.Core.Path.{refl, sym, ap, subst, ◌∙◌}
-use borrow.Author.Rules.{rules}
 use Rattle.grammar.proofs.attrs.parse_attr_values.Goals as goal
 
 pub parse_non_neg-requires : goal.parse_non_neg-requires

@@ -1,17 +1,11 @@
-use borrow.Author.Rules.{rules}
-use Rattle.grammar.proofs.Laws.Tables.{Longer, longer-none, longer-more, globals-laid}
-use Rattle.grammar.proofs.Laws.Lists.{attr-ends}
+use Rattle.grammar.proofs.Laws.Tables.{Longer}
 use Rattle.grammar.specs.declared.tables.Attr.{Attr}
-use Rattle.grammar.specs.Attrs.{attr, attr_list}
-use Rattle.grammar.specs.Inner.Answers.{of_attr}
-use Rattle.cdf.proofs.Laws.ListStart.{start-ends, start-within}
-use Rattle.cdf.proofs.Laws.Step.{got-ends, by-got, by-stop, into-got, into-stop, Read, read_none, read_more, read-stop, read_done}
-use Rattle.cdf.specs.Inner.Answers.{of_word}
+use Rattle.grammar.specs.Attrs.{attr}
+use Rattle.cdf.proofs.Laws.Step.{Read}
 use Rattle.cdf.specs.Form.{form}
 use lib.ListN.{length}
-use native.Mathlib.Omega.{arith}
-use mathlib.Core.List.{List, []}
-use mathlib.Core.Path.{◌≡◌, sym, ap, ◌∙◌}
+use mathlib.Core.List.{List}
+use mathlib.Core.Path.{◌≡◌}
 use Prim.Native.Nat.{◌-◌, ◌≤◌}
 use Rattle.grammar.proofs.attrs.parse_global_attrs_list.Given as goal
 

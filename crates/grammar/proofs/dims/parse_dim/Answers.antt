@@ -5,7 +5,6 @@ use Rattle.cdf.specs.Inner.Answers.{of_word}
 use Rattle.cdf.proofs.Laws.Word.{non_negative-below}
 use native.Mathlib.Omega.{arith}
 use mathlib.Core.Path.{refl, sym, ap, ◌∙◌}
-use borrow.Author.Rules.{rules}
 use Rattle.grammar.proofs.dims.parse_dim.Goals as goal
 
 pub parse_non_neg-requires : goal.parse_non_neg-requires

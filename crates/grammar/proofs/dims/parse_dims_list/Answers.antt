@@ -1,21 +1,14 @@
-use borrow.Author.Rules.{rules}
 use Rattle.grammar.proofs.Laws.Tables.{dim-more, laid-counts}
 use Rattle.grammar.proofs.Laws.Lists.{dim-ends}
-use Rattle.grammar.specs.Tables.{laid}
 use Rattle.grammar.specs.Inner.Parts.{started}
-use Rattle.grammar.specs.Tree.{tree}
-use Rattle.grammar.specs.declared.tables.Dim.{Dim}
-use Rattle.grammar.specs.Dims.{dim, dim_list}
+use Rattle.grammar.specs.Dims.{dim_list}
 use Rattle.grammar.specs.Inner.Answers.{of_dim}
 use Rattle.cdf.proofs.Laws.ListStart.{start-ends, start-within}
-use Rattle.cdf.proofs.Laws.Step.{got-ends, by-got, by-stop, into-got, into-stop, Read, read_none, read_more, read-stop, read_done}
+use Rattle.cdf.proofs.Laws.Step.{got-ends, by-got, by-stop, into-got, into-stop, read_none, read_more, read-stop, read_done}
 use Rattle.cdf.specs.Inner.Answers.{of_word}
-use Rattle.cdf.specs.Form.{form}
-use lib.ListN.{length}
 use native.Mathlib.Omega.{arith}
-use mathlib.Core.List.{List, []}
-use mathlib.Core.Path.{◌≡◌, sym, ap, ◌∙◌}
-use Prim.Native.Nat.{◌-◌, ◌≤◌}
+use mathlib.Core.List.{[]}
+use mathlib.Core.Path.{sym, ap, ◌∙◌}
 use Rattle.grammar.proofs.dims.parse_dims_list.Goals as goal
 
 pub loop-i-init : goal.loop-i-init

@@ -1,20 +1,12 @@
-use borrow.Author.Rules.{rules}
-use Rattle.grammar.proofs.Laws.Tables.{dim-more, laid-counts}
-use Rattle.grammar.proofs.Laws.Lists.{dim-ends}
 use Rattle.grammar.specs.Tables.{laid}
-use Rattle.grammar.specs.Inner.Parts.{started}
 use Rattle.grammar.specs.Tree.{tree}
 use Rattle.grammar.specs.declared.tables.Dim.{Dim}
-use Rattle.grammar.specs.Dims.{dim, dim_list}
-use Rattle.grammar.specs.Inner.Answers.{of_dim}
-use Rattle.cdf.proofs.Laws.ListStart.{start-ends, start-within}
-use Rattle.cdf.proofs.Laws.Step.{got-ends, by-got, by-stop, into-got, into-stop, Read, read_none, read_more, read-stop, read_done}
-use Rattle.cdf.specs.Inner.Answers.{of_word}
+use Rattle.grammar.specs.Dims.{dim}
+use Rattle.cdf.proofs.Laws.Step.{Read}
 use Rattle.cdf.specs.Form.{form}
 use lib.ListN.{length}
-use native.Mathlib.Omega.{arith}
 use mathlib.Core.List.{List, []}
-use mathlib.Core.Path.{◌≡◌, sym, ap, ◌∙◌}
+use mathlib.Core.Path.{◌≡◌}
 use Prim.Native.Nat.{◌-◌, ◌≤◌}
 use Rattle.grammar.proofs.dims.parse_dims_list.Given as goal
 

@@ -1,6 +1,5 @@
 use Rattle.grammar.specs.Tables.{blank}
 use Rattle.grammar.specs.Inner.Parts.{started}
-use borrow.Author.Rules.{rules}
 use Rattle.grammar.proofs.tables.blank.Goals as goal
 
 pub returns : goal.returns

@@ -1,4 +1,3 @@
-
 use Rattle.grammar.proofs.vars.joined.Goals as goal
 
 pub returns : goal.returns

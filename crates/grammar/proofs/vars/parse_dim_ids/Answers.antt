@@ -1,15 +1,11 @@
-use borrow.Author.Rules.{rules}
 use Rattle.grammar.proofs.Laws.Tables.{id-more}
-use Rattle.grammar.specs.Inner.Parts.{headed, dimids}
+use Rattle.grammar.specs.Inner.Parts.{dimids}
 use Rattle.cdf.proofs.Laws.Word.{non_negative-ends, non_negative-below}
-use Rattle.cdf.proofs.Laws.Step.{got-ends, into-got, into-stop, Read, read_none, read_more, read-stop, read_done}
-use Rattle.cdf.specs.Word.{non_negative}
+use Rattle.cdf.proofs.Laws.Step.{got-ends, into-got, into-stop, read_none, read_more, read-stop, read_done}
 use Rattle.cdf.specs.Inner.Answers.{of_word}
-use lib.ListN.{length}
 use native.Mathlib.Omega.{arith}
-use mathlib.Core.List.{List, []}
-use mathlib.Core.Path.{◌≡◌, sym, ap, ◌∙◌}
-use Prim.Native.Nat.{ℕ, ◌-◌, ◌≤◌}
+use mathlib.Core.List.{[]}
+use mathlib.Core.Path.{sym, ap, ◌∙◌}
 use Rattle.grammar.proofs.vars.parse_dim_ids.Goals as goal
 
 pub loop-i-init : goal.loop-i-init

@@ -1,14 +1,9 @@
-use borrow.Author.Rules.{rules}
-use Rattle.grammar.proofs.Laws.Tables.{id-more}
-use Rattle.grammar.specs.Inner.Parts.{headed, dimids}
-use Rattle.cdf.proofs.Laws.Word.{non_negative-ends, non_negative-below}
-use Rattle.cdf.proofs.Laws.Step.{got-ends, into-got, into-stop, Read, read_none, read_more, read-stop, read_done}
+use Rattle.grammar.specs.Inner.Parts.{headed}
+use Rattle.cdf.proofs.Laws.Step.{Read}
 use Rattle.cdf.specs.Word.{non_negative}
-use Rattle.cdf.specs.Inner.Answers.{of_word}
 use lib.ListN.{length}
-use native.Mathlib.Omega.{arith}
 use mathlib.Core.List.{List, []}
-use mathlib.Core.Path.{◌≡◌, sym, ap, ◌∙◌}
+use mathlib.Core.Path.{◌≡◌}
 use Prim.Native.Nat.{ℕ, ◌-◌, ◌≤◌}
 use Rattle.grammar.proofs.vars.parse_dim_ids.Given as goal
 

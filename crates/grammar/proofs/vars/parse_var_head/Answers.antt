@@ -6,7 +6,6 @@ use Rattle.cdf.proofs.Laws.Step.{got-ends, by-got, by-stop, into-stop, into-afte
 use Rattle.cdf.specs.Inner.Answers.{of_word}
 use native.Mathlib.Omega.{arith}
 use mathlib.Core.Path.{sym, ap, ◌∙◌}
-use borrow.Author.Rules.{rules}
 use Rattle.grammar.proofs.vars.parse_var_head.Goals as goal
 
 pub parse_count-requires : goal.parse_count-requires

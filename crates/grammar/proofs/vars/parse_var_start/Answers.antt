@@ -9,7 +9,6 @@ use Rattle.grammar.specs.declared.tables.Var.{Var}
 use Prim.Native.Nat.{ℕ}
 use native.Mathlib.Omega.{arith}
 use mathlib.Core.Path.{refl, sym, ap, ◌∙◌}
-use borrow.Author.Rules.{rules}
 use Rattle.grammar.proofs.vars.parse_var_start.Goals as goal
 
 pub parse_attr_count-requires : goal.parse_attr_count-requires

@@ -5,7 +5,6 @@ use Rattle.cdf.proofs.Laws.Step.{got-ends, by-got, by-stop}
 use Rattle.items.specs.Inner.DataTypes.{of_typed}
 use Rattle.cdf.specs.Inner.Answers.{of_word}
 use mathlib.Core.Path.{refl, sym, ap, ◌∙◌}
-use borrow.Author.Rules.{rules}
 use Rattle.grammar.proofs.vars.parse_var_tail.Goals as goal
 
 pub parse_open_count-requires : goal.parse_open_count-requires

@@ -1,22 +1,14 @@
-use borrow.Author.Rules.{rules}
-use Rattle.grammar.proofs.Laws.Tables.{Longer, longer-none, longer-more, attrs_of-more, var-more}
+use Rattle.grammar.proofs.Laws.Tables.{longer-none, longer-more, attrs_of-more, var-more}
 use Rattle.grammar.proofs.Laws.Lists.{attr-ends, var_start-ends, var_tail-ends, var-start-stops, start-head, var-attrs-stop, var-tail-stops, var-got}
-use Rattle.grammar.specs.declared.tables.Dim.{Dim}
-use Rattle.grammar.specs.declared.tables.Attr.{Attr}
-use Rattle.grammar.specs.Tables.{laid}
-use Rattle.grammar.specs.Tree.{VarItem, tree, attrs_of}
-use Rattle.grammar.specs.Vars.{var}
+use Rattle.grammar.specs.Tree.{VarItem, attrs_of}
 use Rattle.grammar.specs.Inner.Answers.{of_start, of_tail, of_attr}
 use Rattle.grammar.specs.Inner.Parts.{item, vars}
-use Rattle.grammar.specs.Attrs.{attr}
-use Rattle.cdf.proofs.Laws.Step.{got-ends, into-ends, into-got, into-stop, Read, read_none, read_more, read-stop, read_done, items-length}
+use Rattle.cdf.proofs.Laws.Step.{got-ends, into-ends, into-got, into-stop, read_none, read_more, read-stop, read_done, items-length}
 use Rattle.cdf.specs.declared.step.Next.{Next}
-use Rattle.cdf.specs.Form.{form}
 use lib.ListN.{length, length-append}
 use native.Mathlib.Omega.{arith}
-use mathlib.Core.List.{List, [], ◌∷◌, ◌++◌}
-use mathlib.Core.Path.{◌≡◌, refl, sym, ap, ◌∙◌}
-use Prim.Native.Nat.{ℕ, ◌+◌, ◌-◌, ◌≤◌}
+use mathlib.Core.List.{[], ◌∷◌, ◌++◌}
+use mathlib.Core.Path.{refl, sym, ap, ◌∙◌}
 use Rattle.grammar.proofs.vars.parse_vars.Goals as goal
 
 pub loop-i-init : goal.loop-i-init

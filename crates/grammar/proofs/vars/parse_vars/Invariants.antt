@@ -1,21 +1,15 @@
-use borrow.Author.Rules.{rules}
-use Rattle.grammar.proofs.Laws.Tables.{Longer, longer-none, longer-more, attrs_of-more, var-more}
-use Rattle.grammar.proofs.Laws.Lists.{attr-ends, var_start-ends, var_tail-ends, var-start-stops, start-head, var-attrs-stop, var-tail-stops, var-got}
+use Rattle.grammar.proofs.Laws.Tables.{Longer}
 use Rattle.grammar.specs.declared.tables.Dim.{Dim}
 use Rattle.grammar.specs.declared.tables.Attr.{Attr}
 use Rattle.grammar.specs.Tables.{laid}
 use Rattle.grammar.specs.Tree.{VarItem, tree, attrs_of}
 use Rattle.grammar.specs.Vars.{var}
-use Rattle.grammar.specs.Inner.Answers.{of_start, of_tail, of_attr}
-use Rattle.grammar.specs.Inner.Parts.{item, vars}
 use Rattle.grammar.specs.Attrs.{attr}
-use Rattle.cdf.proofs.Laws.Step.{got-ends, into-ends, into-got, into-stop, Read, read_none, read_more, read-stop, read_done, items-length}
-use Rattle.cdf.specs.declared.step.Next.{Next}
+use Rattle.cdf.proofs.Laws.Step.{Read}
 use Rattle.cdf.specs.Form.{form}
-use lib.ListN.{length, length-append}
-use native.Mathlib.Omega.{arith}
-use mathlib.Core.List.{List, [], ◌∷◌, ◌++◌}
-use mathlib.Core.Path.{◌≡◌, refl, sym, ap, ◌∙◌}
+use lib.ListN.{length}
+use mathlib.Core.List.{List, []}
+use mathlib.Core.Path.{◌≡◌}
 use Prim.Native.Nat.{ℕ, ◌+◌, ◌-◌, ◌≤◌}
 use Rattle.grammar.proofs.vars.parse_vars.Given as goal
 

@@ -5,7 +5,6 @@ use Rattle.cdf.proofs.Laws.Step.{got-ends, by-stop, into-stop, into-after}
 use Rattle.cdf.specs.Inner.Answers.{of_word}
 use native.Mathlib.Omega.{arith}
 use mathlib.Core.Path.{sym, ap, ◌∙◌}
-use borrow.Author.Rules.{rules}
 use Rattle.grammar.proofs.vars.parse_vars_list.Goals as goal
 
 pub parse_vars-requires : goal.parse_vars-requires

@@ -7,7 +7,6 @@ use Rattle.cdf.proofs.Laws.Step.{got-ends, by-got, by-stop, into-stop, into-afte
 use Rattle.cdf.specs.Inner.Answers.{of_next, of_word}
 use native.Mathlib.Omega.{arith}
 use mathlib.Core.Path.{sym, ap, ◌∙◌}
-use borrow.Author.Rules.{rules}
 use Rattle.grammar.proofs.whole.parse_header.Goals as goal
 
 pub parse_version-requires : goal.parse_version-requires

@@ -9,7 +9,6 @@ use native.Mathlib.Omega.{arith}
 use lib.ListN.{length}
 use mathlib.Core.List.{append-nil}
 use mathlib.Core.Path.{sym, ap, ◌∙◌}
-use borrow.Author.Rules.{rules}
 use Rattle.grammar.proofs.whole.parse_lists.Goals as goal
 
 pub parse_global_attrs_list-globals-requires : goal.parse_global_attrs_list-globals-requires

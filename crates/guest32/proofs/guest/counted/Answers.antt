@@ -4,7 +4,6 @@ use Rattle.sizes.specs.Inner.Sizes.{of_known}
 use Rattle.sizes.specs.declared.count.Known.{Known}
 use Rattle.guest32.specs.Guest.{low32, guest_rest, guest_step, opened}
 use Rattle.guest32.proofs.Laws.Guest.{step-low, first-most, rest-is, opened-by, count-is}
-use borrow.Author.Rules.{rules}
 use Rattle.guest32.proofs.guest.counted.Goals as goal
 
 pub overflow_sub-rest : goal.overflow_sub-rest

@@ -1,10 +1,7 @@
-use Prim.Native.Nat.{◌-◌, ◌≤◌}
 use native.Mathlib.Omega.{arith}
-use mathlib.Core.Path.{◌≡◌, ◌∙◌}
-use mathlib.Core.Logic.{⊎_elim}
+use mathlib.Core.Path.{◌∙◌}
 use Rattle.sizes.proofs.Laws.Records.{ids-below}
-use Rattle.guest32.proofs.Laws.Guest.{first_upto, upto-none, upto-record, upto-fixed, upto_all}
-use borrow.Author.Rules.{rules}
+use Rattle.guest32.proofs.Laws.Guest.{upto-none, upto-record, upto-fixed, upto_all}
 use Rattle.guest32.proofs.guest.first_begin.Goals as goal
 use Rattle.guest32.proofs.guest.first_begin.Goals.{then-is_record, else-is_record}
 

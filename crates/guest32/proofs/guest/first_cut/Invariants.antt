@@ -1,13 +1,8 @@
 use Prim.Native.Nat.{ℕ, ◌-◌, ◌≤◌, ◌<◌}
-use native.Mathlib.Omega.{arith}
 use mathlib.Core.Path.{◌≡◌}
 use mathlib.Core.Bool.{false}
-use borrow.Author.Count.{below_none, below_more}
 use Rattle.grammar.specs.Tables.{var_at}
-use Rattle.sizes.proofs.Laws.Records.{ids-below}
 use Rattle.guest32.specs.Guest.{cut_short}
-use Rattle.guest32.proofs.Laws.Guest.{capped-short, capped-whole, cut-first, cut-none}
-use borrow.Author.Rules.{rules}
 use Rattle.guest32.proofs.guest.first_cut.Given as goal
 
 abbrev pub invariant-loop-i : goal.invariant-loop-i

@@ -1,7 +1,6 @@
 use Rattle.guest32.proofs.Laws.Guest.{foreign-none, foreign-past}
 use mathlib.Core.Path.{◌∙◌}
 use native.Mathlib.Omega.{arith}
-use borrow.Author.Rules.{rules}
 use Rattle.guest32.proofs.guest.first_foreign.Goals as goal
 
 pub returns-then-step-eq0 : goal.returns-then-step-eq0

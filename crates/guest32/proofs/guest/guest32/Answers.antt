@@ -5,7 +5,6 @@ use Rattle.sizes.specs.Inner.Sizes.{of_counted}
 use Rattle.sizes.proofs.Laws.Records.{sum-in}
 use Rattle.found.proofs.Laws.Sought.{tables-parts}
 use Rattle.guest32.proofs.Laws.Guest.{guest-tables, guest-refused, guest-counted}
-use borrow.Author.Rules.{rules}
 use Rattle.guest32.proofs.guest.guest32.Goals as goal
 
 pub returns-then-not-tested : goal.returns-then-not-tested

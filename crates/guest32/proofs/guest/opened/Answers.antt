@@ -1,6 +1,5 @@
 use native.Mathlib.Omega.{arith}
 use Rattle.guest32.proofs.Laws.Guest.{opened-sizeless, opened-rest, opened-even}
-use borrow.Author.Rules.{rules}
 use Rattle.guest32.proofs.guest.opened.Goals as goal
 
 pub returns-then-step-eq0 : goal.returns-then-step-eq0

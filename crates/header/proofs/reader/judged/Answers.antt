@@ -4,7 +4,6 @@ use Rattle.sizes.proofs.Laws.Count.{ends_by}
 use Rattle.sizes.specs.Inner.Sizes.{of_counted}
 use borrow.Author.Tests.{not-true, not-false}
 use mathlib.Core.Path.{sym, ap, ◌∙◌}
-use borrow.Author.Rules.{rules}
 use Rattle.grammar.proofs.Laws.Within.{within-shaped}
 use Rattle.header.proofs.reader.judged.Goals as goal
 

@@ -3,7 +3,6 @@ use Rattle.grammar.proofs.Laws.Within.{read-within}
 use Rattle.grammar.specs.Inner.Answers.{of_tables}
 use Rattle.cdf.specs.declared.step.Next.{Next}
 use mathlib.Core.Path.{sym, ap, ◌∙◌}
-use borrow.Author.Rules.{rules}
 use Rattle.header.proofs.reader.read_header.Goals as goal
 
 pub returns-then-size-prefix : goal.returns-then-size-prefix

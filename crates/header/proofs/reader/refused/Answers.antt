@@ -1,5 +1,4 @@
 use Rattle.header.specs.Header.{refusal}
-use borrow.Author.Rules.{rules}
 use Rattle.header.proofs.reader.refused.Goals as goal
 
 pub returns : goal.returns

@@ -1,14 +1,9 @@
-use borrow.Author.Rules.{rules}
-use native.Mathlib.Omega.{arith}
-use borrow.Author.Count.{below_none, below_more}
-use mathlib.Core.Path.{◌≡◌, refl}
+use mathlib.Core.Path.{◌≡◌}
 use mathlib.Core.List.{◌++◌}
 use lib.ListN.{length, take, drop, get_or}
-use lib.Seq.{length-take-le}
 use Prim.Native.Nat.{ℕ, ◌+◌, ◌-◌, ◌≤◌, ◌<◌}
 use Rattle.hexlines.specs.Inner.Cut.{kept}
 use Rattle.hexlines.specs.Lines.{newline}
-use Rattle.hexlines.proofs.Laws.Cut.{cut-none, cut-more, cut-closed, cut-open}
 use Rattle.hexlines.proofs.cut.cut_line.Given as goal
 
 abbrev pub invariant-loop-i : goal.invariant-loop-i

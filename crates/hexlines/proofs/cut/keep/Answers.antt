@@ -1,6 +1,5 @@
 use native.Mathlib.Omega.{arith}
 use Rattle.hexlines.proofs.Laws.Cut.{keep-room, keep-full}
-use borrow.Author.Rules.{rules}
 use Rattle.hexlines.proofs.cut.keep.Goals as goal
 
 pub returns-then-held-lt-KEPT : goal.returns-then-held-lt-KEPT

@@ -1,4 +1,3 @@
-use borrow.Author.Rules.{rules}
 use native.Mathlib.Omega.{arith}
 use mathlib.Core.Logic.{inl, inr}
 use Rattle.hexlines.proofs.Laws.Digit.{decimal_digit, upper-digit, lower-digit, no_digit}

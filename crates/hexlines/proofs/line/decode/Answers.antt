@@ -1,11 +1,8 @@
 use borrow.Author.Rules.{rules}
 use native.Mathlib.Omega.{arith}
 use borrow.Author.Count.{below_none}
-use mathlib.Core.Path.{◌≡◌, subst}
-use lib.ListN.{length, take, get_or}
-use Prim.Native.Nat.{ℕ, ◌+◌, ◌-◌, ◌*◌, ◌≤◌, ◌<◌}
-use Rattle.hexlines.specs.Digit.{worth, pair}
-use Rattle.bigendian.specs.Lists.{tab}
+use mathlib.Core.Path.{subst}
+use Prim.Native.Nat.{ℕ, ◌+◌, ◌*◌, ◌<◌}
 use Rattle.hexlines.proofs.Laws.Digit.{digits-all, digits-not, spelled_none, spelled-more, two-more, exactly}
 use Rattle.hexlines.proofs.line.decode.Goals as goal
 

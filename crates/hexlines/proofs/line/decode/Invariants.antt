@@ -1,12 +1,8 @@
-use borrow.Author.Rules.{rules}
-use native.Mathlib.Omega.{arith}
-use borrow.Author.Count.{below_none}
-use mathlib.Core.Path.{◌≡◌, subst}
+use mathlib.Core.Path.{◌≡◌}
 use lib.ListN.{length, take, get_or}
-use Prim.Native.Nat.{ℕ, ◌+◌, ◌-◌, ◌*◌, ◌≤◌, ◌<◌}
+use Prim.Native.Nat.{ℕ, ◌-◌, ◌*◌, ◌≤◌, ◌<◌}
 use Rattle.hexlines.specs.Digit.{worth, pair}
 use Rattle.bigendian.specs.Lists.{tab}
-use Rattle.hexlines.proofs.Laws.Digit.{digits-all, digits-not, spelled_none, spelled-more, two-more, exactly}
 use Rattle.hexlines.proofs.line.decode.Given as goal
 
 abbrev pub invariant-loop-i : goal.invariant-loop-i

@@ -1,6 +1,5 @@
 use native.Mathlib.Omega.{arith}
 use Rattle.hexlines.proofs.Laws.Text.{decimal-is, few-digits, grown-is}
-use borrow.Author.Rules.{rules}
 use Rattle.hexlines.proofs.text.put_decimal.Goals as goal
 
 pub put_text-requires : goal.put_text-requires

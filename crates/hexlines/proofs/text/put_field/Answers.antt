@@ -1,6 +1,5 @@
 use native.Mathlib.Omega.{arith}
 use Rattle.hexlines.proofs.Laws.Text.{grown-field}
-use borrow.Author.Rules.{rules}
 use Rattle.hexlines.proofs.text.put_field.Goals as goal
 
 pub returns : goal.returns

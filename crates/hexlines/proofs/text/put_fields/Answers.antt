@@ -1,6 +1,5 @@
 use native.Mathlib.Omega.{arith}
 use Rattle.hexlines.proofs.Laws.Text.{grown-fields}
-use borrow.Author.Rules.{rules}
 use Rattle.hexlines.proofs.text.put_fields.Goals as goal
 
 pub returns : goal.returns

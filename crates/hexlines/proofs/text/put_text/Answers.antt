@@ -1,9 +1,6 @@
 use borrow.Author.Rules.{rules}
 use native.Mathlib.Omega.{arith}
-use mathlib.Core.Path.{◌≡◌, refl}
-use lib.ListN.{length, take}
-use Prim.Native.Nat.{◌+◌, ◌-◌, ◌≤◌}
-use Rattle.hexlines.specs.Inner.Grown.{Grown}
+use mathlib.Core.Path.{refl}
 use Rattle.hexlines.proofs.Laws.Text.{grown-none, grown-more, grown-all}
 use Rattle.hexlines.proofs.text.put_text.Goals as goal
 

@@ -4,7 +4,6 @@ use Prim.Native.Nat.{ℕ, ◌+◌, ◌-◌}
 use Rattle.items.proofs.Laws.Name.{name_bytes-got, name_bytes-short, name_bytes-bad}
 use mathlib.Core.Path.{sym, ◌∙◌, ◌≡◌, ap}
 use native.Mathlib.Omega.{arith}
-use borrow.Author.Rules.{rules}
 use Rattle.items.proofs.name.parse_name_bytes.Goals as goal
 
 pub returns-then-n-at : goal.returns-then-n-at

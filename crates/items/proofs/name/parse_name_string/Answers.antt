@@ -3,7 +3,6 @@ use Rattle.cdf.proofs.Laws.Word.{nelems-ends}
 use Rattle.cdf.proofs.Laws.Step.{got-ends}
 use Rattle.cdf.specs.Inner.Answers.{of_next, of_word}
 use mathlib.Core.Path.{sym, ap, ◌∙◌}
-use borrow.Author.Rules.{rules}
 use Rattle.items.proofs.name.parse_name_string.Goals as goal
 
 pub parse_name_bytes-requires : goal.parse_name_bytes-requires

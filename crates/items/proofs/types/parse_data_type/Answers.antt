@@ -1,7 +1,6 @@
 use Rattle.items.proofs.Laws.Types.{type-stop, type-got, type-low, type-high}
 use Rattle.cdf.specs.Inner.Answers.{of_word}
 use mathlib.Core.Path.{sym, ap, ◌∙◌}
-use borrow.Author.Rules.{rules}
 use Rattle.items.proofs.types.parse_data_type.Goals as goal
 
 pub returns-then-code-lt1 : goal.returns-then-code-lt1

@@ -1,6 +1,5 @@
 use Rattle.items.proofs.Laws.Utf8.{after_first, after-under, after-over, after-inside}
 use mathlib.Core.Path.{◌∙◌}
-use borrow.Author.Rules.{rules}
 use Rattle.items.proofs.utf8.after.Goals as goal
 
 pub returns-then-d-eq0 : goal.returns-then-d-eq0

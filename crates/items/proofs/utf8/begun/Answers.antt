@@ -1,7 +1,6 @@
 use Rattle.items.proofs.Laws.Utf8.{row-begins, none-begins}
 use mathlib.Core.Path.{refl, ◌∙◌}
 use native.Mathlib.Omega.{arith}
-use borrow.Author.Rules.{rules}
 use Rattle.items.proofs.utf8.begun.Goals as goal
 
 pub returns-then-b-lt128 : goal.returns-then-b-lt128

@@ -1,11 +1,6 @@
-use borrow.Author.Rules.{rules}
 use Rattle.items.proofs.Laws.Utf8.{text-starts, text-more, text-bad, text-ends}
-use Rattle.items.specs.declared.utf8.Scanned.TheVariants.{Good}
-use Rattle.items.specs.Utf8.{utf8, scan}
-use lib.ListN.{length, drop}
 use native.Mathlib.Omega.{arith}
-use mathlib.Core.Path.{◌≡◌, sym, ◌∙◌}
-use Prim.Native.Nat.{◌-◌, ◌≤◌}
+use mathlib.Core.Path.{sym, ◌∙◌}
 use Rattle.items.proofs.utf8.is_utf8.Goals as goal
 
 pub loop-i-init : goal.loop-i-init

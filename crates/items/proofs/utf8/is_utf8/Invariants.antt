@@ -1,10 +1,7 @@
-use borrow.Author.Rules.{rules}
-use Rattle.items.proofs.Laws.Utf8.{text-starts, text-more, text-bad, text-ends}
 use Rattle.items.specs.declared.utf8.Scanned.TheVariants.{Good}
 use Rattle.items.specs.Utf8.{utf8, scan}
 use lib.ListN.{length, drop}
-use native.Mathlib.Omega.{arith}
-use mathlib.Core.Path.{◌≡◌, sym, ◌∙◌}
+use mathlib.Core.Path.{◌≡◌}
 use Prim.Native.Nat.{◌-◌, ◌≤◌}
 use Rattle.items.proofs.utf8.is_utf8.Given as goal
 

@@ -1,6 +1,5 @@
 use Rattle.items.proofs.Laws.Values.{values-short, values-then, bytes_fit}
 use native.Mathlib.Omega.{arith}
-use borrow.Author.Rules.{rules}
 use Rattle.items.proofs.values.parse_typed_data_elements.Goals as goal
 
 pub overflow_mul-total : goal.overflow_mul-total

@@ -1,4 +1,3 @@
-use borrow.Author.Rules.{rules}
 use native.Mathlib.Omega.{arith}
 use Rattle.hexlines.proofs.Laws.Text.{grown-is}
 use Rattle.listing.proofs.Laws.Listing.{file-text}

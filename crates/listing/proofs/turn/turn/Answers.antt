@@ -1,12 +1,10 @@
-use borrow.Author.Rules.{rules}
 use native.Mathlib.Omega.{arith}
 use mathlib.Core.Path.{◌≡◌, refl, sym}
 use mathlib.Core.Logic.{⊎_elim}
 use native.Mathlib.Nat.{eq-or-lt_of_le}
-use lib.ListN.{length, take, drop}
+use lib.ListN.{take}
 use lib.Seq.{length-take-le}
-use Prim.Native.Nat.{◌-◌, ◌≤◌, ◌<◌}
-use Rattle.listing.specs.Listing.{Turns}
+use Prim.Native.Nat.{◌<◌}
 use Rattle.listing.proofs.Laws.Listing.{turns-start, turn-open, turn-closed}
 use Rattle.listing.proofs.turn.turn.Goals as goal
 

@@ -1,12 +1,7 @@
-use borrow.Author.Rules.{rules}
 use Rattle.lookup.proofs.Laws.Lookup.{few, name_in, found, not_found, found-outside}
-use Rattle.lookup.specs.Lookup.{names_inside, is_named}
-use borrow.Author.Tests.{not-true, not-false}
 use borrow.Author.Count.{below_none, below_more}
-use mathlib.Core.Bool.{true, false}
-use mathlib.Core.Path.{◌≡◌, sym, ◌∙◌}
+use mathlib.Core.Path.{sym, ◌∙◌}
 use native.Mathlib.Omega.{arith}
-use Prim.Native.Nat.{ℕ, ◌-◌, ◌≤◌, ◌<◌}
 use Rattle.lookup.proofs.names.find_var.Goals as goal
 
 pub returns-then-not-names_inside : goal.returns-then-not-names_inside

@@ -1,11 +1,6 @@
-use borrow.Author.Rules.{rules}
-use Rattle.lookup.proofs.Laws.Lookup.{few, name_in, found, not_found, found-outside}
 use Rattle.lookup.specs.Lookup.{names_inside, is_named}
-use borrow.Author.Tests.{not-true, not-false}
-use borrow.Author.Count.{below_none, below_more}
 use mathlib.Core.Bool.{true, false}
-use mathlib.Core.Path.{◌≡◌, sym, ◌∙◌}
-use native.Mathlib.Omega.{arith}
+use mathlib.Core.Path.{◌≡◌}
 use Prim.Native.Nat.{ℕ, ◌-◌, ◌≤◌, ◌<◌}
 use Rattle.lookup.proofs.names.find_var.Given as goal
 

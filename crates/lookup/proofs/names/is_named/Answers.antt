@@ -1,10 +1,6 @@
-use borrow.Author.Rules.{rules}
 use Rattle.lookup.proofs.Laws.Lookup.{same_length, same_not, same-all}
-use lib.ListN.{length, get_or}
 use borrow.Author.Count.{below_none, below_more}
-use mathlib.Core.Path.{◌≡◌}
 use native.Mathlib.Omega.{arith}
-use Prim.Native.Nat.{ℕ, ◌+◌, ◌-◌, ◌≤◌, ◌<◌}
 use Rattle.lookup.proofs.names.is_named.Goals as goal
 
 pub returns-then-chars-wanted : goal.returns-then-chars-wanted

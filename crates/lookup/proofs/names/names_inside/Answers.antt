@@ -1,13 +1,10 @@
 use lib.ListN.{length}
 use Rattle.grammar.specs.Tables.{var_at}
-use borrow.Author.Rules.{rules}
-use Rattle.lookup.proofs.Laws.Lookup.{Inside, inside-many, inside-not, inside-all}
+use Rattle.lookup.proofs.Laws.Lookup.{inside-many, inside-not, inside-all}
 use borrow.Author.Tests.{le-leb}
 use borrow.Author.Count.{below_none, below_more}
-use mathlib.Core.Bool.{true}
-use mathlib.Core.Path.{◌≡◌}
 use native.Mathlib.Omega.{arith}
-use Prim.Native.Nat.{ℕ, ◌+◌, ◌-◌, ◌≤◌, ◌<◌}
+use Prim.Native.Nat.{◌+◌, ◌≤◌}
 use Rattle.lookup.proofs.names.names_inside.Goals as goal
 
 pub returns-then-t-gt-MAX_VARS : goal.returns-then-t-gt-MAX_VARS

@@ -9,7 +9,6 @@ use Rattle.items.specs.Name.{part}
 use Rattle.model.specs.Model.{Span, var_names}
 use Rattle.lookup.specs.Lookup.{name_of}
 use native.Mathlib.Omega.{arith}
-use borrow.Author.Rules.{rules}
 use Rattle.lookup.proofs.names.var_name.Goals as goal
 
 pub returns-then-var_name_answer-ne0 : goal.returns-then-var_name_answer-ne0

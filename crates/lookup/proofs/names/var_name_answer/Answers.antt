@@ -1,8 +1,6 @@
 use Rattle.lookup.proofs.Laws.Lookup.{name-past, name-got, name-outside}
-use borrow.Author.Tests.{not-true, not-false}
 use Rattle.cdf.specs.Step.{number_of}
 use mathlib.Core.Path.{sym, ap, ◌∙◌}
-use borrow.Author.Rules.{rules}
 use Rattle.lookup.proofs.names.var_name_answer.Goals as goal
 
 pub returns-then-not-names_inside : goal.returns-then-not-names_inside

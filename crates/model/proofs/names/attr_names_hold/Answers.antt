@@ -1,15 +1,7 @@
-use mathlib.Core.List.{List}
-use lib.ListN.{get_or}
-use Rattle.grammar.specs.Tables.{no_attr}
-use Rattle.grammar.specs.declared.tables.Attr.{Attr}
-use Prim.Native.Nat.{ℕ, ◌+◌, ◌-◌, ◌≤◌, ◌<◌}
 use native.Mathlib.Omega.{arith}
-use mathlib.Core.Path.{◌≡◌, sym, ◌∙◌}
-use mathlib.Core.Bool.{true, false}
+use mathlib.Core.Path.{sym, ◌∙◌}
 use borrow.Author.Count.{below_none, below_more}
-use Rattle.model.specs.Model.{Span, same_name, is_new}
 use Rattle.model.proofs.Laws.Model.{new-if, distinct-all, distinct-empty, distinct-twice}
-use borrow.Author.Rules.{rules}
 use Rattle.model.proofs.names.attr_names_hold.Goals as goal
 
 pub returns-then-n-eq0 : goal.returns-then-n-eq0

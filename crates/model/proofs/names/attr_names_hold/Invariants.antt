@@ -3,13 +3,9 @@ use lib.ListN.{get_or}
 use Rattle.grammar.specs.Tables.{no_attr}
 use Rattle.grammar.specs.declared.tables.Attr.{Attr}
 use Prim.Native.Nat.{ℕ, ◌+◌, ◌-◌, ◌≤◌, ◌<◌}
-use native.Mathlib.Omega.{arith}
-use mathlib.Core.Path.{◌≡◌, sym, ◌∙◌}
+use mathlib.Core.Path.{◌≡◌}
 use mathlib.Core.Bool.{true, false}
-use borrow.Author.Count.{below_none, below_more}
 use Rattle.model.specs.Model.{Span, same_name, is_new}
-use Rattle.model.proofs.Laws.Model.{new-if, distinct-all, distinct-empty, distinct-twice}
-use borrow.Author.Rules.{rules}
 use Rattle.model.proofs.names.attr_names_hold.Given as goal
 
 -- the names of the attributes from `first` on, by their rows

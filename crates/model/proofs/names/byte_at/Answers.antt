@@ -2,7 +2,6 @@ use Prim.Native.Nat.{◌+◌, ◌≤◌}
 use lib.ListN.{get_or-eq_default, length}
 use mathlib.Core.Path.{sym}
 use native.Mathlib.Omega.{arith}
-use borrow.Author.Rules.{rules}
 use Rattle.model.proofs.names.byte_at.Goals as goal
 
 pub returns-then-n-at : goal.returns-then-n-at

@@ -1,11 +1,7 @@
 use Prim.Native.Nat.{ℕ, ◌-◌, ◌≤◌, ◌<◌}
-use native.Mathlib.Omega.{arith}
-use mathlib.Core.Path.{◌≡◌, sym, ◌∙◌}
+use mathlib.Core.Path.{◌≡◌}
 use mathlib.Core.Bool.{true, false}
-use borrow.Author.Count.{below_none, below_more}
 use Rattle.model.specs.Model.{same_name, is_new, dim_names}
-use Rattle.model.proofs.Laws.Model.{new-if, distinct-all, distinct-empty, distinct-twice}
-use borrow.Author.Rules.{rules}
 use Rattle.model.proofs.names.dim_names_hold.Given as goal
 
 abbrev pub invariant-loop-j : goal.invariant-loop-j

@@ -1,10 +1,7 @@
-use borrow.Author.Rules.{rules}
 use Rattle.model.proofs.Laws.Model.{same-all, same_length, same_not}
-use lib.ListN.{get_or}
 use borrow.Author.Count.{below_none, below_more}
-use mathlib.Core.Path.{◌≡◌, sym, ◌∙◌}
+use mathlib.Core.Path.{sym, ◌∙◌}
 use native.Mathlib.Omega.{arith}
-use Prim.Native.Nat.{ℕ, ◌+◌, ◌-◌, ◌≤◌, ◌<◌}
 use Rattle.model.proofs.names.same_name.Goals as goal
 
 pub returns-then-achars-bchars : goal.returns-then-achars-bchars

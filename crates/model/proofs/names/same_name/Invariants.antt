@@ -1,9 +1,5 @@
-use borrow.Author.Rules.{rules}
-use Rattle.model.proofs.Laws.Model.{same-all, same_length, same_not}
 use lib.ListN.{get_or}
-use borrow.Author.Count.{below_none, below_more}
-use mathlib.Core.Path.{◌≡◌, sym, ◌∙◌}
-use native.Mathlib.Omega.{arith}
+use mathlib.Core.Path.{◌≡◌}
 use Prim.Native.Nat.{ℕ, ◌+◌, ◌-◌, ◌≤◌, ◌<◌}
 use Rattle.model.proofs.names.same_name.Given as goal
 

@@ -1,11 +1,7 @@
-use Prim.Native.Nat.{ℕ, ◌-◌, ◌≤◌, ◌<◌}
 use native.Mathlib.Omega.{arith}
-use mathlib.Core.Path.{◌≡◌, sym, ◌∙◌}
-use mathlib.Core.Bool.{true, false}
+use mathlib.Core.Path.{sym, ◌∙◌}
 use borrow.Author.Count.{below_none, below_more}
-use Rattle.model.specs.Model.{same_name, is_new, var_names}
 use Rattle.model.proofs.Laws.Model.{new-if, distinct-all, distinct-empty, distinct-twice}
-use borrow.Author.Rules.{rules}
 use Rattle.model.proofs.names.var_names_hold.Goals as goal
 
 pub loop-i-init : goal.loop-i-init

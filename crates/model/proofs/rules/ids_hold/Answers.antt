@@ -1,14 +1,9 @@
-use Prim.Native.Nat.{ℕ, ◌-◌, ◌≤◌, ◌<◌}
+use Prim.Native.Nat.{ℕ}
 use native.Mathlib.Omega.{arith}
-use mathlib.Core.Path.{◌≡◌, sym, ap, ◌∙◌}
-use mathlib.Core.Bool.{true}
-use mathlib.Core.Logic.{⊎_elim}
+use mathlib.Core.Path.{sym, ap, ◌∙◌}
 use borrow.Author.Count.{below_none, below_more}
-use Rattle.cdf.specs.Below.{all_below}
-use Rattle.model.specs.Model.{id_holds}
 use Rattle.grammar.specs.Tables.{dim_at, var_at}
 use Rattle.model.proofs.Laws.Model.{id-first, id-fixed, id-large, id-later, row-ids, ids_all, ids-not}
-use borrow.Author.Rules.{rules}
 use Rattle.model.proofs.rules.ids_hold.Goals as goal
 use Rattle.model.proofs.rules.ids_hold.Goals.{then-k-gt0+else-d-eq0, else-k-gt0}
 
@@ -37,8 +32,9 @@ loop-k-preserved c =
       l.invariant.1,
       below_more _ _ l.invariant.2
           (elim c.if-k-gt0.branch [
-              then-k-gt0+else-d-eq0 w ↦ id-fixed t v l.k (omega (arith, e)) (λ z. w.if-d-eq0.false (ap (λ (n : ℕ). (dim_at t n).length) e ∙ z))
-            | else-k-gt0 w ↦ id-first t v l.k (omega (arith, e)) (omega arith) ]),
+            | then-k-gt0+else-d-eq0 w ↦ id-fixed t v l.k (omega (arith, e)) (λ z. w.if-d-eq0.false (ap (λ (n : ℕ). (dim_at t n).length) e ∙ z))
+            | else-k-gt0 w ↦ id-first t v l.k (omega (arith, e)) (omega arith)
+          ]),
     )
 
 pub loop-i-preserved : goal.loop-i-preserved

@@ -1,14 +1,9 @@
 use Prim.Native.Nat.{ℕ, ◌-◌, ◌≤◌, ◌<◌}
-use native.Mathlib.Omega.{arith}
-use mathlib.Core.Path.{◌≡◌, sym, ap, ◌∙◌}
+use mathlib.Core.Path.{◌≡◌}
 use mathlib.Core.Bool.{true}
-use mathlib.Core.Logic.{⊎_elim}
-use borrow.Author.Count.{below_none, below_more}
 use Rattle.cdf.specs.Below.{all_below}
 use Rattle.model.specs.Model.{id_holds}
-use Rattle.grammar.specs.Tables.{dim_at, var_at}
-use Rattle.model.proofs.Laws.Model.{id-first, id-fixed, id-large, id-later, row-ids, ids_all, ids-not}
-use borrow.Author.Rules.{rules}
+use Rattle.grammar.specs.Tables.{var_at}
 use Rattle.model.proofs.rules.ids_hold.Given as goal
 
 abbrev pub invariant-loop-k : goal.invariant-loop-k

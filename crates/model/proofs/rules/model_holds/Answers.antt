@@ -1,7 +1,5 @@
 use Rattle.model.proofs.Laws.Model.{model-names, model-unlimited, model-ids}
-use borrow.Author.Tests.{not-true, not-false}
 use mathlib.Core.Path.{sym, ◌∙◌}
-use borrow.Author.Rules.{rules}
 use Rattle.grammar.proofs.Laws.Within.{within-shaped}
 use Rattle.model.proofs.rules.model_holds.Goals as goal
 

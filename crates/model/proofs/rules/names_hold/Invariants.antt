@@ -1,13 +1,8 @@
 use Prim.Native.Nat.{ℕ, ◌-◌, ◌≤◌, ◌<◌}
-use native.Mathlib.Omega.{arith}
-use mathlib.Core.Path.{◌≡◌, sym, ◌∙◌}
+use mathlib.Core.Path.{◌≡◌}
 use mathlib.Core.Bool.{true}
-use borrow.Author.Count.{below_none, below_more}
 use Rattle.model.specs.Model.{distinct, dim_names, var_names, attr_names}
 use Rattle.grammar.specs.Tables.{var_at}
-use borrow.Author.Rules.{rules}
-use borrow.Author.Tests.{not-true, not-false}
-use Rattle.model.proofs.Laws.Model.{names-dims, names-vars, names-globals, names-own, names-all}
 use Rattle.model.proofs.rules.names_hold.Given as goal
 
 abbrev pub invariant-loop-i : goal.invariant-loop-i

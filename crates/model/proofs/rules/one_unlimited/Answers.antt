@@ -1,11 +1,7 @@
-use Prim.Native.Nat.{ℕ, ◌-◌, ◌≤◌, ◌<◌}
 use native.Mathlib.Omega.{arith}
-use mathlib.Core.Path.{◌≡◌, sym, ◌∙◌}
-use mathlib.Core.Logic.{⊎_elim}
+use mathlib.Core.Path.{sym, ◌∙◌}
 use borrow.Author.Count.{below_none, below_more}
-use Rattle.model.specs.Inner.Unlimited.{unlimited}
-use Rattle.model.proofs.Laws.Model.{Single, single-fixed, single-only, one_holds, one-breaks}
-use borrow.Author.Rules.{rules}
+use Rattle.model.proofs.Laws.Model.{single-fixed, single-only, one_holds, one-breaks}
 use Rattle.model.proofs.rules.one_unlimited.Goals as goal
 use Rattle.model.proofs.rules.one_unlimited.Goals.{then-d-eq0+else-i-only, else-d-eq0}
 

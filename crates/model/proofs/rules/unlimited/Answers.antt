@@ -1,10 +1,7 @@
-use Prim.Native.Nat.{ℕ, ◌-◌, ◌≤◌, ◌<◌}
 use native.Mathlib.Omega.{arith}
 use mathlib.Core.Path.{◌≡◌, ◌∙◌}
 use borrow.Author.Count.{below_none, below_more}
-use Rattle.grammar.specs.Tables.{dim_at}
 use Rattle.model.proofs.Laws.Model.{unlimited-none, unlimited-is}
-use borrow.Author.Rules.{rules}
 use Rattle.model.proofs.rules.unlimited.Goals as goal
 
 pub loop-i-init : goal.loop-i-init

@@ -1,10 +1,6 @@
 use Prim.Native.Nat.{ℕ, ◌-◌, ◌≤◌, ◌<◌}
-use native.Mathlib.Omega.{arith}
-use mathlib.Core.Path.{◌≡◌, ◌∙◌}
-use borrow.Author.Count.{below_none, below_more}
+use mathlib.Core.Path.{◌≡◌}
 use Rattle.grammar.specs.Tables.{dim_at}
-use Rattle.model.proofs.Laws.Model.{unlimited-none, unlimited-is}
-use borrow.Author.Rules.{rules}
 use Rattle.model.proofs.rules.unlimited.Given as goal
 
 abbrev pub invariant-loop-i : goal.invariant-loop-i

@@ -1,7 +1,6 @@
 use mathlib.Core.Path.{refl}
 use borrow.Author.Tests.{le-leb, lt-leb}
 use Rattle.order.proofs.Laws.Chain.{fails, holds, ended, passed}
-use borrow.Author.Rules.{rules}
 use Rattle.order.proofs.inside.var_inside.Goals as goal
 
 pub returns-then-not-is_inside : goal.returns-then-not-is_inside

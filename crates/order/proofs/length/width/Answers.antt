@@ -3,7 +3,6 @@ use mathlib.Core.Path.{ap, ◌∙◌}
 use Rattle.items.specs.Types.{size_of}
 use Rattle.items.proofs.Laws.Types.{size-high}
 use Rattle.order.proofs.Laws.Sums.{size_none, size-over}
-use borrow.Author.Rules.{rules}
 use Rattle.order.proofs.length.width.Goals as goal
 
 pub returns-then-code-lt1 : goal.returns-then-code-lt1

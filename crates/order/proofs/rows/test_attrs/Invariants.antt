@@ -1,20 +1,12 @@
 use Prim.Native.Nat.{ℕ, ◌+◌, ◌-◌, ◌*◌, ◌≤◌, ◌<◌}
-use mathlib.Core.Path.{◌≡◌, sym}
+use mathlib.Core.Path.{◌≡◌}
 use mathlib.Core.Bool.{true}
-use native.Mathlib.Omega.{arith}
-use borrow.Author.Count.{below_none, below_more}
 use lib.ListN.{get_or}
 use Rattle.sizes.specs.Records.{total}
-use Rattle.grammar.specs.Tables.{no_attr, attr_at}
+use Rattle.grammar.specs.Tables.{no_attr}
 use Rattle.order.specs.Writable.{attr_inside}
 use Rattle.order.specs.Inner.Lengths.{attr_length}
-use Rattle.order.specs.Inner.Tests.{attr_tested, attrs_tested, attr_rows_tested}
-use Rattle.order.proofs.Laws.Chain.{fails, holds, ended, passed, refused, row-fails, rows-hold}
-use Rattle.order.proofs.Laws.Inside.{attr-row}
-use Rattle.order.proofs.Laws.Sums.{sum-none, sum_more, length-from-zero, attrs-all}
-use Rattle.order.proofs.Laws.Tested.{global-fails}
-use Rattle.order.proofs.Laws.Words.{tested-from-zero}
-use borrow.Author.Rules.{rules}
+use Rattle.order.specs.Inner.Tests.{attr_tested}
 use Rattle.order.proofs.rows.test_attrs.Given as goal
 
 abbrev pub invariant-loop-i : goal.invariant-loop-i

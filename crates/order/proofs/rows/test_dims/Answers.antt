@@ -1,14 +1,9 @@
-use Prim.Native.Nat.{ℕ, ◌+◌, ◌-◌, ◌*◌, ◌≤◌, ◌<◌}
-use mathlib.Core.Path.{◌≡◌, sym, ap}
-use mathlib.Core.Bool.{true}
+use Prim.Native.Nat.{ℕ, ◌+◌}
+use mathlib.Core.Path.{sym, ap}
 use native.Mathlib.Omega.{arith}
 use borrow.Author.Count.{below_none, below_more}
 use borrow.Author.Tests.{leb-true}
-use Rattle.sizes.specs.Records.{total}
-use Rattle.grammar.specs.Tables.{dim_at}
-use Rattle.order.specs.Writable.{dim_inside}
-use Rattle.order.specs.Inner.Lengths.{dim_length}
-use Rattle.order.specs.Inner.Tests.{dim_tested, dims_tested, dim_rows_tested}
+use Rattle.order.specs.Inner.Tests.{dims_tested, dim_rows_tested}
 use Rattle.order.proofs.Laws.Chain.{fails, holds, ended, passed, refused, row-fails, rows-hold}
 use Rattle.order.proofs.Laws.Sums.{sum-none, sum_more, dims-all}
 use Rattle.order.proofs.Laws.Tested.{dim-fails}

@@ -1,18 +1,11 @@
-use Prim.Native.Nat.{ℕ, ◌+◌, ◌-◌, ◌*◌, ◌≤◌, ◌<◌}
-use mathlib.Core.Path.{◌≡◌, sym, ap}
+use Prim.Native.Nat.{ℕ, ◌-◌, ◌*◌, ◌≤◌, ◌<◌}
+use mathlib.Core.Path.{◌≡◌}
 use mathlib.Core.Bool.{true}
-use native.Mathlib.Omega.{arith}
-use borrow.Author.Count.{below_none, below_more}
-use borrow.Author.Tests.{leb-true}
 use Rattle.sizes.specs.Records.{total}
 use Rattle.grammar.specs.Tables.{dim_at}
 use Rattle.order.specs.Writable.{dim_inside}
 use Rattle.order.specs.Inner.Lengths.{dim_length}
-use Rattle.order.specs.Inner.Tests.{dim_tested, dims_tested, dim_rows_tested}
-use Rattle.order.proofs.Laws.Chain.{fails, holds, ended, passed, refused, row-fails, rows-hold}
-use Rattle.order.proofs.Laws.Sums.{sum-none, sum_more, dims-all}
-use Rattle.order.proofs.Laws.Tested.{dim-fails}
-use borrow.Author.Rules.{rules}
+use Rattle.order.specs.Inner.Tests.{dim_tested}
 use Rattle.order.proofs.rows.test_dims.Given as goal
 
 abbrev pub invariant-loop-i : goal.invariant-loop-i

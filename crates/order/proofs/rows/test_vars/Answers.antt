@@ -1,14 +1,9 @@
-use Prim.Native.Nat.{ℕ, ◌+◌, ◌-◌, ◌*◌, ◌≤◌, ◌<◌}
-use mathlib.Core.Path.{◌≡◌, refl, sym}
-use mathlib.Core.Bool.{true}
+use Prim.Native.Nat.{◌+◌}
+use mathlib.Core.Path.{refl, sym}
 use native.Mathlib.Omega.{arith}
 use borrow.Author.Count.{below_none, below_more}
-use lib.ListN.{get_or}
-use Rattle.sizes.specs.Records.{total}
-use Rattle.grammar.specs.Tables.{no_attr, var_at}
-use Rattle.order.specs.Writable.{var_inside}
-use Rattle.order.specs.Inner.Lengths.{attr_length, var_length}
-use Rattle.order.specs.Inner.Tests.{attr_tested, attrs_tested, var_all_tested, vars_tested, attributes_upto, var_rows_tested}
+use Rattle.grammar.specs.Tables.{var_at}
+use Rattle.order.specs.Inner.Tests.{attrs_tested, vars_tested, var_rows_tested}
 use Rattle.order.proofs.Laws.Chain.{fails, holds, ended, passed, refused, row-fails, rows-hold}
 use Rattle.order.proofs.Laws.Inside.{attr-rows, var-row}
 use Rattle.order.proofs.Laws.Sums.{sum-none, sum_more, attrs-all, var-all, vars-all}

@@ -3,7 +3,6 @@ use borrow.Author.Tests.{not-true, not-false}
 use Rattle.sizes.specs.Inner.Sizes.{of_counted}
 use Rattle.sizes.proofs.Laws.Count.{ends_by}
 use Rattle.order.proofs.Laws.Totals.{sizes-broken, sizes-refused, sizes-other, sizes-same}
-use borrow.Author.Rules.{rules}
 use Rattle.order.proofs.totals.sizes_hold.Goals as goal
 
 pub returns-then-not-z : goal.returns-then-not-z

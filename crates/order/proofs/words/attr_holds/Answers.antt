@@ -1,7 +1,6 @@
 use mathlib.Core.Path.{refl}
 use Rattle.order.proofs.Laws.Chain.{fails, holds, ended, passed}
 use Rattle.order.specs.Inner.Tests.{attr_tested}
-use borrow.Author.Rules.{rules}
 use Rattle.order.proofs.words.attr_holds.Goals as goal
 
 pub returns-then-not-name_holds : goal.returns-then-not-name_holds

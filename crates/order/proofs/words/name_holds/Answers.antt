@@ -5,7 +5,6 @@ use lib.ListN.{take, drop}
 use Rattle.items.specs.Utf8.{utf8}
 use borrow.Author.Tests.{le-leb, lt-leb}
 use Rattle.order.proofs.Laws.Chain.{ended, passed}
-use borrow.Author.Rules.{rules}
 use Rattle.order.proofs.words.name_holds.Goals as goal
 
 pub returns-then-chars-gt-MAX_NAME : goal.returns-then-chars-gt-MAX_NAME

@@ -2,7 +2,6 @@ use mathlib.Core.Path.{ap}
 use lib.Dec.{ltb}
 use Rattle.order.proofs.Laws.Chain.{fails, holds, ended, passed}
 use Rattle.order.specs.Inner.Tests.{var_tested}
-use borrow.Author.Rules.{rules}
 use Rattle.order.proofs.words.var_holds.Goals as goal
 
 pub returns-then-not-name_holds : goal.returns-then-not-name_holds

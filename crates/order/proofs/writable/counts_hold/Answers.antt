@@ -1,7 +1,6 @@
 use borrow.Author.Tests.{le-leb, lt-leb}
 use Rattle.order.specs.Inner.Tests.{counts_tested}
 use Rattle.order.proofs.Laws.Chain.{fails, holds, ended, passed}
-use borrow.Author.Rules.{rules}
 use Rattle.order.proofs.writable.counts_hold.Goals as goal
 
 pub returns-then-t-gt-MAX_DIMS : goal.returns-then-t-gt-MAX_DIMS

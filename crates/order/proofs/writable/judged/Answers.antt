@@ -7,7 +7,6 @@ use Rattle.order.proofs.Laws.Chain.{fails, holds, ended, passed, refused}
 use Rattle.order.proofs.Laws.Rows.{full-rows}
 use Rattle.order.proofs.Laws.Said.{counts-see, attrs-see, rows-see, within, model-ids, writable-not, writable-by}
 use Rattle.order.proofs.Laws.Sums.{header-by}
-use borrow.Author.Rules.{rules}
 use Rattle.order.proofs.writable.judged.Goals as goal
 
 pub returns-then-not-counts_hold : goal.returns-then-not-counts_hold

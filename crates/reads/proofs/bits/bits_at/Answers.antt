@@ -2,7 +2,6 @@ use Rattle.items.specs.Inner.DataTypes.{code_of}
 use lib.Dec.{lit≤}
 use mathlib.Core.Path.{sym, ap, ◌∙◌}
 use Rattle.reads.proofs.Laws.Element.{byte_at, byte-in, bits_is, room-is}
-use borrow.Author.Rules.{rules}
 use Rattle.reads.proofs.bits.bits_at.Goals as goal
 
 pub bounds-s-at : goal.bounds-s-at

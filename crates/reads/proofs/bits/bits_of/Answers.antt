@@ -1,7 +1,6 @@
 use Rattle.reads.specs.Inner.Spot.{of_spot}
 use mathlib.Core.Path.{sym, ap, ◌∙◌}
 use Rattle.reads.proofs.Laws.Element.{spot_in, spot-stop, spot-got}
-use borrow.Author.Rules.{rules}
 use Rattle.reads.proofs.bits.bits_of.Goals as goal
 
 pub bits_at-requires : goal.bits_at-requires

@@ -3,7 +3,6 @@ use Rattle.found.specs.Sought.{of_sought}
 use mathlib.Core.Path.{sym, ap, ◌∙◌}
 use Rattle.cdf.proofs.Laws.Step.{by-got, by-stop}
 use Rattle.reads.proofs.Laws.Kept.{kept-bounded}
-use borrow.Author.Rules.{rules}
 use Rattle.reads.proofs.bits.read_bits.Goals as goal
 
 pub bits_of-requires : goal.bits_of-requires

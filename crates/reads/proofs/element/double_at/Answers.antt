@@ -1,5 +1,4 @@
 use Rattle.reads.proofs.Laws.Element.{double-is}
-use borrow.Author.Rules.{rules}
 use Rattle.reads.proofs.element.double_at.Goals as goal
 
 pub returns : goal.returns

@@ -1,7 +1,6 @@
 use mathlib.Core.Path.{sym, ap, ◌∙◌}
 use Rattle.reads.specs.Inner.Spot.{of_spot}
 use Rattle.reads.proofs.Laws.Element.{spot_in, element-stop, element-got}
-use borrow.Author.Rules.{rules}
 use Rattle.reads.proofs.element.element_of.Goals as goal
 
 pub value_at-requires : goal.value_at-requires

@@ -1,5 +1,4 @@
 use Rattle.reads.proofs.Laws.Element.{float_is}
-use borrow.Author.Rules.{rules}
 use Rattle.reads.proofs.element.float_at.Goals as goal
 
 pub returns : goal.returns

@@ -3,7 +3,6 @@ use Rattle.found.specs.Sought.{of_sought}
 use mathlib.Core.Path.{sym, ap, ◌∙◌}
 use Rattle.reads.proofs.Laws.Element.{answer-stop, answer-got}
 use Rattle.reads.proofs.Laws.Kept.{as-came}
-use borrow.Author.Rules.{rules}
 use Rattle.reads.proofs.element.read_element_as.Goals as goal
 
 pub element_of-requires : goal.element_of-requires

@@ -5,7 +5,6 @@ use mir.Syntax.{w8, w16, w32}
 use Rattle.decode.proofs.Laws.Decoded.{stored}
 use Rattle.reads.specs.declared.element.Value.TheVariants.{Byte, Char, Short, Int}
 use Rattle.reads.proofs.Laws.Element.{byte_at, byte-in, value-is, room-is}
-use borrow.Author.Rules.{rules}
 use Rattle.reads.proofs.element.value_at.Goals as goal
 
 pub bounds-s-at : goal.bounds-s-at

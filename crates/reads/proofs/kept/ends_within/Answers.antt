@@ -1,10 +1,9 @@
 use Prim.Native.Nat.{◌-◌, ◌*◌, ◌≤◌}
 use native.Mathlib.Omega.{arith}
 use Rattle.sizes.specs.Records.{max_position}
-use borrow.Author.Tests.{not-true, not-false, leb-true}
+use borrow.Author.Tests.{leb-true}
 use mathlib.Core.Path.{sym, ◌∙◌}
 use Rattle.reads.proofs.Laws.Kept.{ends-begin, ends-chunk, ends_last}
-use borrow.Author.Rules.{rules}
 use Rattle.reads.proofs.kept.ends_within.Goals as goal
 
 pub returns-then-v-gt-MAX_POSITION : goal.returns-then-v-gt-MAX_POSITION

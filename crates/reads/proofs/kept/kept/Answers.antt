@@ -1,8 +1,6 @@
 use Rattle.found.specs.Sought.{of_sought}
-use borrow.Author.Tests.{not-true, not-false}
 use mathlib.Core.Path.{sym, ap, ◌∙◌}
 use Rattle.reads.proofs.Laws.Kept.{kept-stop, kept-broken, kept-got}
-use borrow.Author.Rules.{rules}
 use Rattle.reads.proofs.kept.kept.Goals as goal
 
 pub returns-then-not-spread_holds : goal.returns-then-not-spread_holds

@@ -1,7 +1,6 @@
 use Rattle.found.specs.Sought.{of_sought}
 use mathlib.Core.Path.{sym, ap, ◌∙◌}
 use Rattle.reads.proofs.Laws.Kept.{as-stop, as-other, as-got}
-use borrow.Author.Rules.{rules}
 use Rattle.reads.proofs.kept.kept_as.Goals as goal
 
 pub returns-then-v-code : goal.returns-then-v-code

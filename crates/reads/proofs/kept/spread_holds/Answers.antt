@@ -1,7 +1,6 @@
 use Rattle.items.specs.Types.{size_of}
 use mathlib.Core.Path.{sym, ap, ◌∙◌}
 use Rattle.reads.proofs.Laws.Kept.{spread-low, spread-high, spread-width, spread_none, spread-ends}
-use borrow.Author.Rules.{rules}
 use Rattle.reads.proofs.kept.spread_holds.Goals as goal
 
 pub returns-then-v-lt1 : goal.returns-then-v-lt1

@@ -1,8 +1,6 @@
-use borrow.Author.Tests.{not-true, not-false}
 use mathlib.Core.Path.{sym, ◌∙◌}
 use native.Mathlib.Omega.{arith}
 use Rattle.reads.proofs.Laws.Reads.{element-in, held, spot-record, spot-element, spot-window, spot-at}
-use borrow.Author.Rules.{rules}
 use Rattle.reads.proofs.place.element_spot.Goals as goal
 
 pub returns-then-v-r : goal.returns-then-v-r

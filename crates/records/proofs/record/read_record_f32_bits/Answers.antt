@@ -3,7 +3,6 @@ use native.Mathlib.Omega.{arith}
 use Rattle.decode.specs.Decoded.{raw}
 use Rattle.records.specs.Inner.Stretch.{of_stretched}
 use Rattle.records.proofs.Laws.Filled.{record-of-fits, decoder-asks, record-stop, record-got}
-use borrow.Author.Rules.{rules}
 use Rattle.records.proofs.record.read_record_f32_bits.Goals as goal
 
 pub slice_bounds-records_u32-count : goal.slice_bounds-records_u32-count

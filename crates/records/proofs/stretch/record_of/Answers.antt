@@ -3,7 +3,6 @@ use Rattle.cdf.proofs.Laws.Step.{by-got, by-stop}
 use Rattle.found.specs.Sought.{of_sought}
 use Rattle.records.specs.Inner.Stretch.{record_placed}
 use Rattle.reads.proofs.Laws.Kept.{as-came}
-use borrow.Author.Rules.{rules}
 use Rattle.records.proofs.stretch.record_of.Goals as goal
 
 pub record_stretch-requires : goal.record_stretch-requires

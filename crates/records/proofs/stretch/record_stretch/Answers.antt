@@ -1,9 +1,7 @@
-use borrow.Author.Tests.{not-true, not-false}
 use mathlib.Core.Path.{sym, ◌∙◌}
 use native.Mathlib.Omega.{arith}
 use Rattle.records.proofs.Laws.Stretch.{record-none, record-window, record-room, record-got}
 use Rattle.reads.proofs.Laws.Reads.{held}
-use borrow.Author.Rules.{rules}
 use Rattle.records.proofs.stretch.record_stretch.Goals as goal
 
 pub returns-then-v-r : goal.returns-then-v-r

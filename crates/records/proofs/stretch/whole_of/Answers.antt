@@ -1,4 +1,3 @@
-use borrow.Author.Rules.{rules}
 use mathlib.Core.Path.{sym, ap, ◌∙◌}
 use Rattle.cdf.proofs.Laws.Step.{by-got, by-stop}
 use Rattle.found.specs.Sought.{of_sought}

@@ -1,9 +1,7 @@
-use borrow.Author.Tests.{not-true, not-false}
 use mathlib.Core.Path.{sym, ◌∙◌}
 use native.Mathlib.Omega.{arith}
 use Rattle.records.proofs.Laws.Stretch.{last-in, whole-none, whole-window, whole_room, whole-got}
 use Rattle.reads.proofs.Laws.Reads.{held}
-use borrow.Author.Rules.{rules}
 use Rattle.records.proofs.stretch.whole_stretch.Goals as goal
 
 pub returns-then-v-eq0 : goal.returns-then-v-eq0

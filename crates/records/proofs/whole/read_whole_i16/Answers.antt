@@ -3,7 +3,6 @@ use native.Mathlib.Omega.{arith}
 use Rattle.decode.specs.Decoded.{short}
 use Rattle.records.specs.Inner.Stretch.{of_stretched}
 use Rattle.records.proofs.Laws.Filled.{whole-of-fits, decoder-asks, whole-stop, whole-got}
-use borrow.Author.Rules.{rules}
 use Rattle.records.proofs.whole.read_whole_i16.Goals as goal
 
 pub slice_bounds-records_i16-count : goal.slice_bounds-records_i16-count

@@ -1,4 +1,4 @@
-use Rattle.std.proofs.Common.{sym, arith, length-take-le, rules}
+use Rattle.std.proofs.Common.{sym, arith, length-take-le}
 use Rattle.replay.proofs.converted.show_converted.Goals as goal
 
 pub slice_bounds-convert_into-end : goal.slice_bounds-convert_into-end

@@ -1,4 +1,4 @@
-use Rattle.std.proofs.Common.{w8, rules}
+use Rattle.std.proofs.Common.{w8}
 use Rattle.replay.proofs.Laws.Shown.{widens}
 use Rattle.replay.proofs.text.show_byte.Goals as goal
 

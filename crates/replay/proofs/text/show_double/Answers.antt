@@ -1,4 +1,3 @@
-use Rattle.std.proofs.Common.{rules}
 use Rattle.replay.proofs.Laws.Shown.{same-is-number}
 use Rattle.replay.proofs.text.show_double.Goals as goal
 

@@ -1,4 +1,4 @@
-use Rattle.std.proofs.Common.{w32, rules}
+use Rattle.std.proofs.Common.{w32}
 use Rattle.replay.proofs.Laws.Shown.{widens}
 use Rattle.replay.proofs.text.show_int.Goals as goal
 

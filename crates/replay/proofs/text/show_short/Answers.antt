@@ -1,4 +1,4 @@
-use Rattle.std.proofs.Common.{w16, rules}
+use Rattle.std.proofs.Common.{w16}
 use Rattle.replay.proofs.Laws.Shown.{widens}
 use Rattle.replay.proofs.text.show_short.Goals as goal
 

@@ -1,5 +1,5 @@
-use Rattle.std.proofs.Common.{lit≤, w64, rules}
-use Rattle.std.proofs.num.Nearest.{Turned, plain, turn}
+use Rattle.std.proofs.Common.{lit≤, w64}
+use Rattle.std.proofs.num.Nearest.{plain, turn}
 use Rattle.replay.proofs.text.show_signed.Goals as goal
 
 pub overflow_cast-n : goal.overflow_cast-n

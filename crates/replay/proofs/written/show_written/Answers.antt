@@ -1,4 +1,4 @@
-use Rattle.std.proofs.Common.{sym, arith, length-take-le, rules}
+use Rattle.std.proofs.Common.{sym, arith, length-take-le}
 use Rattle.replay.proofs.written.show_written.Goals as goal
 
 pub slice_bounds-write_into-end : goal.slice_bounds-write_into-end

@@ -1,5 +1,4 @@
 use Rattle.sizes.proofs.Laws.Count.{divided-below, divided-rest, divided-even}
-use borrow.Author.Rules.{rules}
 use Rattle.sizes.proofs.count.divided.Goals as goal
 
 pub returns-then-size-first : goal.returns-then-size-first

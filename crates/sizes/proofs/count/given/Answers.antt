@@ -1,7 +1,6 @@
 use mathlib.Core.Path.{sym, ◌∙◌}
 use native.Mathlib.Omega.{arith}
 use Rattle.sizes.proofs.Laws.Count.{records-some, records-none, count-fixed, count_word, count_none, count-opened, not-open}
-use borrow.Author.Rules.{rules}
 use Rattle.sizes.proofs.count.given.Goals as goal
 
 pub returns-then-t-unlimited : goal.returns-then-t-unlimited

@@ -1,13 +1,10 @@
 use mathlib.Core.Path.{sym, ap, ◌∙◌}
-use Prim.Native.Nat.{ℕ}
-use Rattle.cdf.specs.Step.{Step}
 use Rattle.sizes.specs.Inner.Sizes.{divided, of_known}
-use Rattle.sizes.specs.Count.{first_begin, count_or}
+use Rattle.sizes.specs.Count.{first_begin}
 use Rattle.sizes.specs.Records.{record_size}
 use Rattle.sizes.specs.declared.records.Sizes.{Sizes}
 use Rattle.sizes.specs.declared.count.Known.{Known}
 use Rattle.sizes.proofs.Laws.Count.{count-is}
-use borrow.Author.Rules.{rules}
 use Rattle.sizes.proofs.count.record_count.Goals as goal
 
 pub given-requires : goal.given-requires

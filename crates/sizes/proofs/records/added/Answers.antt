@@ -1,5 +1,4 @@
 use Rattle.sizes.proofs.Laws.Records.{still-begin, still-chunk, still-record, still-fixed, added-record, added-over, added-inside, never}
-use borrow.Author.Rules.{rules}
 use Rattle.sizes.proofs.records.added.Goals as goal
 
 pub returns-then-begin-gt-MAX_POSITION : goal.returns-then-begin-gt-MAX_POSITION

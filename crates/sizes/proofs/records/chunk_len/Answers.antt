@@ -1,10 +1,6 @@
-use borrow.Author.Rules.{rules}
-use Rattle.sizes.proofs.Laws.Records.{outer-within, first_lengths, lengths_none, lengths-more, lengths-all}
-use Rattle.sizes.specs.Records.{outer}
-use Rattle.sizes.specs.Inner.Sizes.{capped}
-use mathlib.Core.Path.{◌≡◌, ◌∙◌}
+use Rattle.sizes.proofs.Laws.Records.{outer-within, lengths_none, lengths-more, lengths-all}
+use mathlib.Core.Path.{◌∙◌}
 use native.Mathlib.Omega.{arith}
-use Prim.Native.Nat.{◌-◌, ◌≤◌}
 use Rattle.sizes.proofs.records.chunk_len.Goals as goal
 
 pub loop-k-init : goal.loop-k-init

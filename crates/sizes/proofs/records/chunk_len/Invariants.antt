@@ -1,9 +1,7 @@
-use borrow.Author.Rules.{rules}
-use Rattle.sizes.proofs.Laws.Records.{outer-within, first_lengths, lengths_none, lengths-more, lengths-all}
+use Rattle.sizes.proofs.Laws.Records.{first_lengths}
 use Rattle.sizes.specs.Records.{outer}
 use Rattle.sizes.specs.Inner.Sizes.{capped}
-use mathlib.Core.Path.{◌≡◌, ◌∙◌}
-use native.Mathlib.Omega.{arith}
+use mathlib.Core.Path.{◌≡◌}
 use Prim.Native.Nat.{◌-◌, ◌≤◌}
 use Rattle.sizes.proofs.records.chunk_len.Given as goal
 

@@ -1,6 +1,5 @@
 use Rattle.sizes.proofs.Laws.Records.{ends-not-fixed, ends-none, ends_above, ends-room}
 use borrow.Author.Tests.{not-true, not-false}
-use borrow.Author.Rules.{rules}
 use Rattle.sizes.proofs.records.ends_hold.Goals as goal
 
 pub returns-then-not-z : goal.returns-then-not-z

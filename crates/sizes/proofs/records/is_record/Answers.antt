@@ -1,6 +1,5 @@
 use Rattle.sizes.proofs.Laws.Records.{record-none, record-by}
 use native.Mathlib.Omega.{arith}
-use borrow.Author.Rules.{rules}
 use Rattle.sizes.proofs.records.is_record.Goals as goal
 
 pub returns-then-v-eq0 : goal.returns-then-v-eq0

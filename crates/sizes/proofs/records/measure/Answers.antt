@@ -1,17 +1,14 @@
-use Prim.Native.Nat.{ℕ, ◌-◌, ◌≤◌, ◌<◌, ◌+◌}
+use Prim.Native.Nat.{◌-◌, ◌≤◌, ◌+◌}
 use native.Mathlib.Omega.{arith}
 use mathlib.Core.Path.{◌≡◌, refl, sym, ap, subst, ◌∙◌}
-use mathlib.Core.Logic.{⊎_elim}
-use mathlib.Core.Bool.{true}
 use borrow.Author.Count.{below_none, below_more}
 use borrow.Author.Tests.{not-true, not-false}
 use Rattle.grammar.specs.Tables.{var_at}
 use Rattle.sizes.specs.declared.records.Sizes.{Sizes}
 use Rattle.sizes.specs.Records.{max_chunk, outer, chunk}
-use Rattle.sizes.specs.Inner.Sizes.{placed, capped}
+use Rattle.sizes.specs.Inner.Sizes.{capped}
 use Rattle.sizes.proofs.Laws.Records.{seen, first_lengths, ids-below, only-first, seen_first, seen_more, seen_all, lengths_none, lengths-first, lengths-more, lengths-all, outer_below, capped-most, padded-is, sizes-all, never}
-use Rattle.sizes.proofs.Laws.Count.{sizes_upto, upto-none, upto_all, upto_turn, upto-broken}
-use borrow.Author.Rules.{rules}
+use Rattle.sizes.proofs.Laws.Count.{upto-none, upto_all, upto_turn, upto-broken}
 use Rattle.sizes.proofs.records.measure.Goals as goal
 use Rattle.sizes.proofs.records.measure.Goals.{then-d-eq0, else-d-eq0}
 
@@ -43,11 +40,11 @@ loop-k-preserved c =
     let inside = c.loop-k-test.true in
     let walked : (c.if-d-eq0.records ≡ seen t.dims v (l.k + 1)) × (c.if-d-eq0.len ≡ capped (first_lengths t.dims v (l.k + 1 - outer t.dims v))) =
     elim c.if-d-eq0.branch [
-        then-d-eq0 w ↦
-            let first = only-first t c.requires.1 i c.loop-i-test.true l.k inside w.if-d-eq0.true in
-            (w.records-is ∙ seen_first t.dims v l.k inside first w.if-d-eq0.true, w.len-is ∙ l.invariant.3 ∙ ap capped (lengths-first t.dims v l.k inside first w.if-d-eq0.true))
+      | then-d-eq0 w ↦
+          let first = only-first t c.requires.1 i c.loop-i-test.true l.k inside w.if-d-eq0.true in
+          (w.records-is ∙ seen_first t.dims v l.k inside first w.if-d-eq0.true, w.len-is ∙ l.invariant.3 ∙ ap capped (lengths-first t.dims v l.k inside first w.if-d-eq0.true))
       | else-d-eq0 w ↦
-            (w.records-is ∙ l.invariant.2 ∙ seen_more t.dims v l.k w.if-d-eq0.false, w.len-is ∙ lengths-more t.dims v l.k (outer_below t.dims v l.k w.if-d-eq0.false) (λ x e. w.times-len.ensures x (l.invariant.3 ∙ e)))
+          (w.records-is ∙ l.invariant.2 ∙ seen_more t.dims v l.k w.if-d-eq0.false, w.len-is ∙ lengths-more t.dims v l.k (outer_below t.dims v l.k w.if-d-eq0.false) (λ x e. w.times-len.ensures x (l.invariant.3 ∙ e)))
     ] in
     (omega arith, l.invariant.1, walked.0, walked.1)
 

@@ -1,6 +1,5 @@
 use mathlib.Core.Bool.{Bool, cond}
 use mathlib.Core.Path.{sym, ap, ◌∙◌}
-use borrow.Author.Rules.{rules}
 use Rattle.sizes.proofs.records.outer.Goals as goal
 
 pub returns-then-is_record : goal.returns-then-is_record

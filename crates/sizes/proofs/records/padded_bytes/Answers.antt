@@ -3,7 +3,6 @@ use Rattle.sizes.proofs.Laws.Records.{capped-self, capped-most, padded-by}
 use Rattle.items.specs.Types.{size_of}
 use mathlib.Core.Path.{ap, ◌∙◌}
 use native.Mathlib.Omega.{arith}
-use borrow.Author.Rules.{rules}
 use Rattle.sizes.proofs.records.padded_bytes.Goals as goal
 
 pub overflow_add-result : goal.overflow_add-result

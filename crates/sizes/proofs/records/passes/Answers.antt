@@ -1,6 +1,5 @@
 use Rattle.sizes.proofs.Laws.Records.{passes_none, passes-by}
 use native.Mathlib.Omega.{arith}
-use borrow.Author.Rules.{rules}
 use Rattle.sizes.proofs.records.passes.Goals as goal
 
 pub returns-then-step-eq0 : goal.returns-then-step-eq0

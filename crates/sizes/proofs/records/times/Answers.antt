@@ -1,6 +1,5 @@
 use Rattle.sizes.proofs.Laws.Records.{times_zero, times-over, times-in, times-fits, times-small, times-short}
 use native.Mathlib.Omega.{arith}
-use borrow.Author.Rules.{rules}
 use Rattle.sizes.proofs.records.times.Goals as goal
 
 pub overflow_mul-result : goal.overflow_mul-result

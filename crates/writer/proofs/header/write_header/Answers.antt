@@ -1,7 +1,6 @@
-use borrow.Author.Rules.{rules}
 use borrow.Author.Tests.{not-true, not-false}
 use native.Mathlib.Omega.{arith}
-use mathlib.Core.Path.{◌≡◌, ap}
+use mathlib.Core.Path.{ap}
 use lib.ListN.{length}
 use Rattle.order.proofs.Laws.Rows.{full-rows}
 use Rattle.order.proofs.Laws.Chain.{fails, holds}

@@ -1,13 +1,8 @@
 use borrow.Author.Rules.{rules}
 use native.Mathlib.Omega.{arith}
-use Prim.Native.Nat.{ℕ, ◌+◌, ◌-◌, ◌*◌, ◌≤◌, ◌<◌}
-use mathlib.Core.Path.{◌≡◌, refl, sym, ap, ◌∙◌}
-use mathlib.Core.List.{◌++◌}
-use lib.ListN.{length, take, drop, get_or}
+use Prim.Native.Nat.{◌+◌}
 use Rattle.writer.proofs.Laws.Vars.{length-header, put_whole}
 use Rattle.rules.proofs.Laws.Spelled.{length-spelled}
-use Rattle.writer.proofs.lists.put_lists.Reads as put-lists-reads
-use Rattle.writer.proofs.put.put_word.Reads as put-word-reads
 use Rattle.writer.proofs.lists.put_header.Goals as goal
 
 -- src/lists.rt:42:9

@@ -1,12 +1,8 @@
-use borrow.Author.Rules.{rules}
 use native.Mathlib.Omega.{arith}
-use mathlib.Core.Path.{◌≡◌, refl, sym, ap, ◌∙◌}
-use lib.ListN.{length}
-use Rattle.writer.proofs.Laws.Put.{put-wide, put-narrow, wide_room, narrow-room}
+use Rattle.writer.proofs.Laws.Put.{put-narrow, wide_room, narrow-room}
 use Prim.Native.Nat.{◌/◌}
 use Rattle.rules.proofs.Laws.Spelled.{length-spelled}
 use Rattle.writer.proofs.Laws.Put.{put-wide-begin}
-use Rattle.writer.proofs.put.put_word.Reads as put-word-reads
 use Rattle.writer.proofs.put.put_begin.Goals as goal
 
 -- src/put.rt:86:9

@@ -1,9 +1,6 @@
 use borrow.Author.Rules.{rules}
 use native.Mathlib.Omega.{arith}
-use mathlib.Core.Path.{◌≡◌, refl}
-use lib.ListN.{length, take}
-use Prim.Native.Nat.{◌+◌, ◌-◌, ◌≤◌}
-use Rattle.writer.specs.Inner.Put.{Put}
+use mathlib.Core.Path.{refl}
 use Rattle.writer.proofs.Laws.Put.{put-none, put-more, put_all}
 use Rattle.writer.proofs.put.put_bytes.Goals as goal
 

@@ -1,14 +1,9 @@
-use borrow.Author.Rules.{rules}
 use native.Mathlib.Omega.{arith}
-use mathlib.Core.Path.{◌≡◌, refl, sym, ap, ◌∙◌}
-use lib.ListN.{length}
-use Rattle.writer.proofs.Laws.Put.{put-name, length-name, length-padded_out}
+use Rattle.writer.proofs.Laws.Put.{put-name, length-name}
 use Rattle.items.specs.Name.{part}
 use Rattle.rules.proofs.Laws.Spelled.{length-spelled}
 use Rattle.rules.proofs.Laws.Sound.{length_part}
 use Rattle.writer.proofs.Laws.Put.{slice-part}
-use Rattle.writer.proofs.put.put_padded.Reads as put-padded-reads
-use Rattle.writer.proofs.put.put_word.Reads as put-word-reads
 use Rattle.writer.proofs.put.put_name.Goals as goal
 
 -- src/put.rt:64:9

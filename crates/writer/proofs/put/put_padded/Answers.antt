@@ -1,9 +1,5 @@
-use borrow.Author.Rules.{rules}
 use native.Mathlib.Omega.{arith}
 use Rattle.writer.proofs.Laws.Put.{put-padded, length-padded_out}
-use Rattle.cdf.proofs.padding.compute_padding_size.Reads as compute-padding-size-reads
-use Rattle.writer.proofs.put.put_bytes.Reads as put-bytes-reads
-use Rattle.writer.proofs.put.put_padding.Reads as put-padding-reads
 use Rattle.writer.proofs.put.put_padded.Goals as goal
 
 -- src/put.rt:54:9

@@ -1,11 +1,6 @@
-use borrow.Author.Rules.{rules}
 use native.Mathlib.Omega.{arith}
-use mathlib.Core.Path.{◌≡◌, refl, sym, ap, ◌∙◌}
-use lib.ListN.{length}
 use Rattle.writer.proofs.Laws.Put.{put-tagged, put-absent}
 use Rattle.rules.proofs.Laws.Spelled.{length-spelled}
-use Rattle.writer.proofs.put.put_word.Reads as put-word-reads
-use Rattle.writer.proofs.put.put_zeros.Reads as put-zeros-reads
 use Rattle.writer.proofs.put.put_start.Goals as goal
 
 -- src/put.rt:74:9

@@ -1,10 +1,7 @@
-use borrow.Author.Rules.{rules}
-use native.Mathlib.Omega.{arith}
 use Prim.Native.Nat.{◌+◌, ◌-◌, ◌≤◌}
 use mathlib.Core.Path.{◌≡◌}
 use lib.ListN.{length, replicate}
 use Rattle.writer.specs.Inner.Put.{Put}
-use Rattle.writer.proofs.Laws.Put.{put-nothing, put-zero, put-zeros-all}
 use Rattle.writer.proofs.put.put_zeros.Given as goal
 
 abbrev pub invariant-loop-i : goal.invariant-loop-i

@@ -1,16 +1,8 @@
 use borrow.Author.Rules.{rules}
 use native.Mathlib.Omega.{arith}
-use Prim.Native.Nat.{ℕ, ◌+◌, ◌-◌, ◌*◌, ◌≤◌, ◌<◌}
-use mathlib.Core.Path.{◌≡◌, refl, sym, ap, ◌∙◌}
-use mathlib.Core.List.{◌++◌}
-use lib.ListN.{length, take, drop, get_or}
 use Rattle.writer.proofs.Laws.Rows.{length-attr, put-attr}
 use Rattle.rules.proofs.Laws.Spelled.{length-spelled}
 use Rattle.writer.proofs.Laws.Put.{slice-part}
-use Rattle.writer.proofs.put.put_name.Reads as put-name-reads
-use Rattle.writer.proofs.put.put_padded.Reads as put-padded-reads
-use Rattle.writer.proofs.put.put_word.Reads as put-word-reads
-use Rattle.writer.proofs.rows.value_bytes.Reads as value-bytes-reads
 use Rattle.writer.proofs.rows.put_attr.Goals as goal
 
 -- src/rows.rt:74:9

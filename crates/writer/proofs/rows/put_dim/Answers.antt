@@ -1,12 +1,6 @@
 use borrow.Author.Rules.{rules}
 use native.Mathlib.Omega.{arith}
-use Prim.Native.Nat.{ℕ, ◌+◌, ◌-◌, ◌*◌, ◌≤◌, ◌<◌}
-use mathlib.Core.Path.{◌≡◌, refl, sym, ap, ◌∙◌}
-use mathlib.Core.List.{◌++◌}
-use lib.ListN.{length, take, drop, get_or}
 use Rattle.writer.proofs.Laws.Rows.{length-dim, put-dim}
-use Rattle.writer.proofs.put.put_name.Reads as put-name-reads
-use Rattle.writer.proofs.put.put_word.Reads as put-word-reads
 use Rattle.writer.proofs.rows.put_dim.Goals as goal
 
 -- src/rows.rt:24:9

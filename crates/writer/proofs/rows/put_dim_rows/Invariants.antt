@@ -1,14 +1,9 @@
-use borrow.Author.Rules.{rules}
-use native.Mathlib.Omega.{arith}
 use Prim.Native.Nat.{◌-◌, ◌≤◌}
-use mathlib.Core.Path.{◌≡◌, refl}
+use mathlib.Core.Path.{◌≡◌}
 use lib.ListN.{length, take}
-use Rattle.grammar.specs.Tables.{no_dim}
-use Rattle.order.proofs.Laws.Rows.{full-rows}
 use Rattle.rules.specs.Encode.{each}
 use Rattle.writer.specs.Inner.Put.{Put}
 use Rattle.writer.specs.Inner.Parts.{dim_out}
-use Rattle.writer.proofs.Laws.Rows.{item_room, put_item, put_first, put_last}
 use Rattle.writer.proofs.rows.put_dim_rows.Given as goal
 
 abbrev pub invariant-loop-i : goal.invariant-loop-i

@@ -1,12 +1,9 @@
 use borrow.Author.Rules.{rules}
 use native.Mathlib.Omega.{arith}
-use Prim.Native.Nat.{◌-◌, ◌≤◌}
-use mathlib.Core.Path.{◌≡◌, refl}
-use lib.ListN.{length, take}
+use mathlib.Core.Path.{refl}
+use lib.ListN.{length}
 use Rattle.grammar.specs.Tables.{no_attr}
 use Rattle.order.proofs.Laws.Rows.{full-rows}
-use Rattle.rules.specs.Encode.{each}
-use Rattle.writer.specs.Inner.Put.{Put}
 use Rattle.writer.specs.Inner.Parts.{attr_out}
 use Rattle.writer.proofs.Laws.Rows.{item_room, put_item, put_first, put_last, put-no-items}
 use Rattle.writer.proofs.rows.put_global_rows.Goals as goal

@@ -1,15 +1,10 @@
-use borrow.Author.Rules.{rules}
 use native.Mathlib.Omega.{arith}
-use Prim.Native.Nat.{ℕ, ◌+◌, ◌-◌, ◌*◌, ◌≤◌, ◌<◌}
-use mathlib.Core.Path.{◌≡◌, refl, sym, ap, ◌∙◌}
-use mathlib.Core.List.{◌++◌}
-use lib.ListN.{length, take, drop, get_or}
+use Prim.Native.Nat.{◌*◌}
+use mathlib.Core.Path.{ap, ◌∙◌}
 use Rattle.items.specs.Types.{size_of}
 use Rattle.items.specs.Inner.DataTypes.{code_of}
 use Rattle.items.proofs.Laws.Types.{size-high}
 use Rattle.writer.proofs.Laws.Rows.{bytes-fit-wide}
-use Rattle.items.proofs.types.DataType.of_code.Reads as of-code-reads
-use Rattle.items.proofs.types.DataType.size_of.Reads as size-of-reads
 use Rattle.writer.proofs.rows.value_bytes.Goals as goal
 
 -- src/rows.rt:62:6

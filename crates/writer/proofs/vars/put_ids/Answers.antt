@@ -1,15 +1,10 @@
 use borrow.Author.Rules.{rules}
 use native.Mathlib.Omega.{arith}
-use Prim.Native.Nat.{ℕ, ◌+◌, ◌-◌, ◌*◌, ◌≤◌, ◌<◌}
-use mathlib.Core.Path.{◌≡◌, refl, sym, ap, ◌∙◌}
-use mathlib.Core.List.{◌++◌}
-use lib.ListN.{length, take, drop, get_or}
+use mathlib.Core.Path.{◌≡◌, refl}
+use lib.ListN.{length, get_or}
 use Rattle.writer.proofs.Laws.Rows.{item_room, put_item, put_first, put_last}
 use Rattle.rules.specs.Rules.{spelled}
 use Rattle.rules.proofs.Laws.Spelled.{length-spelled}
-use Rattle.rules.specs.Encode.{each}
-use Rattle.writer.specs.Inner.Put.{Put}
-use Rattle.writer.proofs.put.put_word.Reads as put-word-reads
 use Rattle.writer.proofs.vars.put_ids.Goals as goal
 
 -- src/rows.rt:118:5

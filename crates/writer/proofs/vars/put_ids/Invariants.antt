@@ -1,15 +1,9 @@
-use borrow.Author.Rules.{rules}
-use native.Mathlib.Omega.{arith}
-use Prim.Native.Nat.{ℕ, ◌+◌, ◌-◌, ◌*◌, ◌≤◌, ◌<◌}
-use mathlib.Core.Path.{◌≡◌, refl, sym, ap, ◌∙◌}
-use mathlib.Core.List.{◌++◌}
-use lib.ListN.{length, take, drop, get_or}
-use Rattle.writer.proofs.Laws.Rows.{item_room, put_item, put_first, put_last}
+use Prim.Native.Nat.{◌-◌, ◌≤◌}
+use mathlib.Core.Path.{◌≡◌}
+use lib.ListN.{length, take}
 use Rattle.rules.specs.Rules.{spelled}
-use Rattle.rules.proofs.Laws.Spelled.{length-spelled}
 use Rattle.rules.specs.Encode.{each}
 use Rattle.writer.specs.Inner.Put.{Put}
-use Rattle.writer.proofs.put.put_word.Reads as put-word-reads
 use Rattle.writer.proofs.vars.put_ids.Given as goal
 
 abbrev pub invariant-loop-i : goal.invariant-loop-i

@@ -1,14 +1,7 @@
 use borrow.Author.Rules.{rules}
 use native.Mathlib.Omega.{arith}
-use Prim.Native.Nat.{ℕ, ◌+◌, ◌-◌, ◌*◌, ◌≤◌, ◌<◌}
-use mathlib.Core.Path.{◌≡◌, refl, sym, ap, ◌∙◌}
-use mathlib.Core.List.{◌++◌}
-use lib.ListN.{length, take, drop, get_or}
 use Rattle.writer.proofs.Laws.Vars.{length-shape, put_three}
 use Rattle.rules.proofs.Laws.Spelled.{length-spelled}
-use Rattle.writer.proofs.put.put_name.Reads as put-name-reads
-use Rattle.writer.proofs.put.put_word.Reads as put-word-reads
-use Rattle.writer.proofs.vars.put_ids.Reads as put-ids-reads
 use Rattle.writer.proofs.vars.put_shape.Goals as goal
 
 -- src/vars.rt:42:9

@@ -1,15 +1,9 @@
-use borrow.Author.Rules.{rules}
-use native.Mathlib.Omega.{arith}
 use Prim.Native.Nat.{◌+◌, ◌-◌, ◌≤◌}
-use mathlib.Core.Path.{◌≡◌, refl}
-use lib.ListN.{length, take, drop, get_or, length-drop}
-use Rattle.grammar.specs.Tables.{no_attr, no_var}
-use Rattle.order.proofs.Laws.Rows.{full-rows}
+use mathlib.Core.Path.{◌≡◌}
+use lib.ListN.{length, take, drop}
 use Rattle.rules.specs.Encode.{each}
 use Rattle.writer.specs.Inner.Put.{Put}
 use Rattle.writer.specs.Inner.Parts.{attr_out, var_out}
-use Rattle.writer.proofs.Laws.Rows.{item_room, put_item, put_first, put_last, nth_drop}
-use Rattle.writer.proofs.Laws.Vars.{items_out, shape-room, start-room, items-room, tail-room, put-var}
 use Rattle.writer.proofs.vars.put_var_rows.Given as goal
 
 abbrev pub invariant-loop-k : goal.invariant-loop-k
