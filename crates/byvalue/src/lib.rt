@@ -1,4 +1,4 @@
-// Floats and doubles by value, for callers in other languages: what `bench/` measures beside the reads by bits of `exports`.
+// Floats and doubles by value, for callers in other languages, through byvalue_c: what `bench/` measures beside the reads by bits of `exports`.
 // By value every NaN pattern becomes the one NaN, so that each value is tested; by bits none is.
 #![tactic(auto)]
 

@@ -1,5 +1,5 @@
-// What another language calls: functions over numbers and slices, each for every input. A slice crosses as a pointer and a length, an output of one number
-// as a pointer. Each answers 0 or the number of a refusal, and a refusal writes nothing.
+// What another language calls, through exports_c: functions over numbers and slices, each for every input. A slice crosses as a pointer and a
+// length, an output of one number as a pointer. Each answers 0 or the number of a refusal, and a refusal writes nothing.
 #![tactic(auto)]
 
 pub mod tables; // tables.rt: the header reader

@@ -20,7 +20,7 @@ pub returns-then-t-id : goal.returns-then-t-id
 returns-then-t-id c = ids-not _ _ _ c.loop-i-test.true c.loop-k-test.true (id-large _ _ _ (omega (arith, c.index-id.ensures)))
 
 pub returns-then-d-eq0 : goal.returns-then-d-eq0
-returns-then-d-eq0 c = let t = c.args.t in ids-not _ _ _ c.loop-i-test.true c.loop-k-test.true (id-later _ _ _ (omega (arith, c.index-id.ensures)) c.if-k-gt0.true (ap (λ (n : ℕ). (dim_at t n).length) (sym c.index-id.ensures) ∙ c.if-d-eq0.true))
+returns-then-d-eq0 c = let t = c.args.t in ids-not _ _ _ c.loop-i-test.true c.loop-k-test.true (id-later _ _ _ (omega (arith, c.index-id.ensures)) (omega (arith, c.if-k-gt0.true)) (ap (λ (n : ℕ). (dim_at t n).length) (sym c.index-id.ensures) ∙ c.if-d-eq0.true))
 
 pub loop-k-preserved : goal.loop-k-preserved
 loop-k-preserved c =
