@@ -1,6 +1,8 @@
 // A whole variable: the chunk of each of `count` records, one `stride` bytes after the other, goes to the output from element
 // k × `chunk` on; that part of the output is lent on to the chunk decoder. What lies after the last record's values stays.
 // Of the last record the values alone have to be there, not what fills it up to the stride.
+#![tactic(auto, using(bigendian::proofs::Laws::Lists::row_in))]
+
 ghost use Rattle.std.specs.Prelude.{◌≡◌, ◌++◌, ℕ, ◌+◌, ◌*◌, ◌<◌, ◌≤◌, length, drop};
 ghost use Rattle.bigendian.specs.Lists.{grid};
 ghost use Rattle.decode.specs.Decoded.{byte, short, int, float, double, raw};

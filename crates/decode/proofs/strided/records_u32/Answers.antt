@@ -4,7 +4,6 @@ use native.Mathlib.Omega.{arith}
 use mathlib.Core.Path.{ap, ◌∙◌}
 use mathlib.Core.List.{◌++◌}
 use lib.ListN.{length, drop}
-use borrow.Rule.Slice.PartMut.{mid_len}
 use Rattle.bigendian.specs.Lists.{grid}
 use Rattle.decode.specs.Decoded.{raw}
 use Rattle.decode.specs.Inner.Chunks.{of_record}
@@ -14,76 +13,6 @@ use Rattle.decode.proofs.strided.records_u32.Goals as goal
 
 pub loop-k-init : goal.loop-k-init
 loop-k-init c = (search rules, tabled-none _ _ _)
-
-pub overflow_mul-a : goal.overflow_mul-a
-overflow_mul-a c = let row = row_in _ _ c.args.chunk _ c.loop-k-test.true c.requires.chunk_in_bounds in
-    let part = c.requires.by_index _ c.loop-k-test.true in
-    let inside : c.loop-k.k * c.args.chunk + c.args.chunk ≤ length c.loop-k.out = omega arith in omega arith
-
-pub overflow_add-b : goal.overflow_add-b
-overflow_add-b c = let row = row_in _ _ c.args.chunk _ c.loop-k-test.true c.requires.chunk_in_bounds in
-    let part = c.requires.by_index _ c.loop-k-test.true in
-    let inside : c.loop-k.k * c.args.chunk + c.args.chunk ≤ length c.loop-k.out = omega arith in omega arith
-
-pub overflow_mul-c : goal.overflow_mul-c
-overflow_mul-c c = let row = row_in _ _ c.args.chunk _ c.loop-k-test.true c.requires.chunk_in_bounds in
-    let part = c.requires.by_index _ c.loop-k-test.true in
-    let inside : c.loop-k.k * c.args.chunk + c.args.chunk ≤ length c.loop-k.out = omega arith in omega arith
-
-pub overflow_mul-d : goal.overflow_mul-d
-overflow_mul-d c = let row = row_in _ _ c.args.chunk _ c.loop-k-test.true c.requires.chunk_in_bounds in
-    let part = c.requires.by_index _ c.loop-k-test.true in
-    let inside : c.loop-k.k * c.args.chunk + c.args.chunk ≤ length c.loop-k.out = omega arith in omega arith
-
-pub overflow_add-d : goal.overflow_add-d
-overflow_add-d c = let row = row_in _ _ c.args.chunk _ c.loop-k-test.true c.requires.chunk_in_bounds in
-    let part = c.requires.by_index _ c.loop-k-test.true in
-    let inside : c.loop-k.k * c.args.chunk + c.args.chunk ≤ length c.loop-k.out = omega arith in omega arith
-
-pub slice_bounds-decode_u32-count : goal.slice_bounds-decode_u32-count
-slice_bounds-decode_u32-count c = let row = row_in _ _ c.args.chunk _ c.loop-k-test.true c.requires.chunk_in_bounds in
-    let part = c.requires.by_index _ c.loop-k-test.true in
-    let inside : c.loop-k.k * c.args.chunk + c.args.chunk ≤ length c.loop-k.out = omega arith in omega arith
-
-pub slice_bounds-decode_u32-start : goal.slice_bounds-decode_u32-start
-slice_bounds-decode_u32-start c = let row = row_in _ _ c.args.chunk _ c.loop-k-test.true c.requires.chunk_in_bounds in
-    let part = c.requires.by_index _ c.loop-k-test.true in
-    let inside : c.loop-k.k * c.args.chunk + c.args.chunk ≤ length c.loop-k.out = omega arith in omega arith
-
-pub slice_bounds-decode_u32-end : goal.slice_bounds-decode_u32-end
-slice_bounds-decode_u32-end c = let row = row_in _ _ c.args.chunk _ c.loop-k-test.true c.requires.chunk_in_bounds in
-    let part = c.requires.by_index _ c.loop-k-test.true in
-    let inside : c.loop-k.k * c.args.chunk + c.args.chunk ≤ length c.loop-k.out = omega arith in omega arith
-
-pub offset_bounds-out-a : goal.offset_bounds-out-a
-offset_bounds-out-a c = let row = row_in _ _ c.args.chunk _ c.loop-k-test.true c.requires.chunk_in_bounds in
-    let part = c.requires.by_index _ c.loop-k-test.true in
-    let inside : c.loop-k.k * c.args.chunk + c.args.chunk ≤ length c.loop-k.out = omega arith in omega arith
-
-pub slice_bounds-decode_u32-count-in-loop-k : goal.slice_bounds-decode_u32-count-in-loop-k
-slice_bounds-decode_u32-count-in-loop-k c = let row = row_in _ _ c.args.chunk _ c.loop-k-test.true c.requires.chunk_in_bounds in
-    let part = c.requires.by_index _ c.loop-k-test.true in
-    let inside : c.loop-k.k * c.args.chunk + c.args.chunk ≤ length c.loop-k.out = omega arith in omega arith
-
-pub slice_bounds-decode_u32-start-in-loop-k : goal.slice_bounds-decode_u32-start-in-loop-k
-slice_bounds-decode_u32-start-in-loop-k c = let row = row_in _ _ c.args.chunk _ c.loop-k-test.true c.requires.chunk_in_bounds in
-    let part = c.requires.by_index _ c.loop-k-test.true in
-    let inside : c.loop-k.k * c.args.chunk + c.args.chunk ≤ length c.loop-k.out = omega arith in omega arith
-
-pub slice_bounds-decode_u32-end-in-loop-k : goal.slice_bounds-decode_u32-end-in-loop-k
-slice_bounds-decode_u32-end-in-loop-k c = let row = row_in _ _ c.args.chunk _ c.loop-k-test.true c.requires.chunk_in_bounds in
-    let part = c.requires.by_index _ c.loop-k-test.true in
-    let inside : c.loop-k.k * c.args.chunk + c.args.chunk ≤ length c.loop-k.out = omega arith in omega arith
-
-pub decode_u32-requires : goal.decode_u32-requires
-decode_u32-requires c =
-    let row = row_in _ _ c.args.chunk _ c.loop-k-test.true c.requires.chunk_in_bounds in
-    let part = c.requires.by_index _ c.loop-k-test.true in
-    let inside : c.loop-k.k * c.args.chunk + c.args.chunk ≤ length c.loop-k.out = omega arith in
-    let a = c.args in
-    let p = mid_len (c.loop-k.k * a.stride) _ a.src.now part in
-    let q = mid_len (c.loop-k.k * a.chunk) _ c.loop-k.out inside in
-    omega arith
 
 pub loop-k-preserved : goal.loop-k-preserved
 loop-k-preserved c =
