@@ -1,12 +1,12 @@
 // Data types: their codes and the sizes of their elements.
 ghost use Rattle.std.specs.Prelude.{◌≡◌, ◌≤◌, length};
 ghost use Rattle.items.specs.Types.{size_of, data_type};
-ghost use Rattle.items.specs.Inner.DataTypes.{of_typed, code_of};
+ghost use Rattle.items.specs.Inner.DataTypes.{of_typed, code_of, Decodes};
 
 use cdf::step::Word;
 use cdf::word::parse_non_neg;
 
-#[derive(Clone, Copy)]
+#[derive(Clone, Copy, Debug, PartialEq, Eq, Hash)]
 pub enum DataType {
     // byte, signed
     I8,
@@ -21,6 +21,10 @@ pub enum DataType {
     // double
     F64,
 }
+
+// A code that no type has.
+#[derive(Clone, Copy, Debug, PartialEq, Eq, Hash)]
+pub struct UnknownCode(pub u64);
 
 // A step that reads a type.
 #[derive(Clone, Copy)]
@@ -94,6 +98,25 @@ impl DataType {
             4 => DataType::I32,
             5 => DataType::F32,
             _ => DataType::F64,
+        }
+    }
+}
+
+// The type of any code, or that none has it.
+impl TryFrom<u64> for DataType {
+    type Error = UnknownCode;
+
+    ghost try_from_gives = { Decodes };
+
+    fn try_from(code: u64) -> Result<DataType, UnknownCode> {
+        match code {
+            1 => Ok(DataType::I8),
+            2 => Ok(DataType::U8),
+            3 => Ok(DataType::I16),
+            4 => Ok(DataType::I32),
+            5 => Ok(DataType::F32),
+            6 => Ok(DataType::F64),
+            _ => Err(UnknownCode(code)),
         }
     }
 }

@@ -1,8 +1,10 @@
 -- The enum of the data types, by the codes of Types.antt.
-use Rattle.std.specs.Prelude.{ℕ}
+use Rattle.std.specs.Prelude.{ℕ, ◌≡◌, false, Result, MatchResult}
+use Rattle.cdf.specs.Below.{between}
 use Rattle.cdf.specs.Step.{Step, got, stop}
 use Rattle.items.specs.declared.types.DataType.{DataType}
 use Rattle.items.specs.declared.types.DataType.TheVariants.{I8, U8, I16, I32, F32, F64}
+use Rattle.items.specs.declared.types.UnknownCode.{UnknownCode}
 use Rattle.items.specs.declared.types.Typed.{Typed}
 use Rattle.items.specs.declared.types.Typed.TheVariants.{Got, Stop}
 
@@ -19,3 +21,7 @@ code_of F64 = 6
 abbrev pub of_typed : Typed → Step ℕ
 of_typed (Got t n) = got (code_of t) n
 of_typed (Stop k p) = stop k p
+
+-- the type that has the code, or that no type has it
+abbrev pub Decodes : ℕ → Result DataType UnknownCode → Type 0
+Decodes code r = MatchResult r (λ kind. code_of kind ≡ code) (λ e. (e.0 ≡ code) × (between 1 6 code ≡ false))
