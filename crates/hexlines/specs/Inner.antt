@@ -1,4 +1,3 @@
 -- Words of inner contracts alone: no entry's contract and no demand reaches them.
 pub mod Cut
 pub mod Answers
-pub mod Grown

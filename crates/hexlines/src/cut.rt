@@ -1,54 +1,43 @@
 // Cutting lines out of blocks of text.
-ghost use Rattle.std.specs.Prelude.{◌≡◌, [], ◌∷◌, ◌++◌, ◌+◌, ◌≤◌, ◌<◌, length, take};
+ghost use Rattle.std.specs.Prelude.{◌≡◌, ◌++◌, take, eqb};
+ghost use Rattle.std.specs.List.{position};
+ghost use Rattle.hexlines.specs.Lines.{newline};
 ghost use Rattle.hexlines.specs.Inner.Cut.{Cuts, kept};
+
+use arrayvec::ArrayVec;
 
 // One more than the longest line, so that a longer one shows.
 pub const KEPT: usize = 16385;
 
-// Where the block goes on, how many characters of the line are held, whether its line end was met.
-#[derive(Clone, Copy)]
-pub struct Cut {
-    pub next: usize,
-    pub held: usize,
-    pub closed: bool,
+// The characters of a line that is open, of which there may be more.
+pub type OpenLine = ArrayVec<u8, KEPT>;
+
+// Adds characters to the line; what is above `KEPT` is dropped.
+fn keep(line: &mut OpenLine, more: &[u8])
+    ensures { line.new.items ≡ take kept (line.old.items ++ more.now) }
+{
+    let fits = more.len().min(line.remaining_capacity());
+    line.try_extend_from_slice(&more[..fits]).unwrap();
 }
 
-// Adds `c` to the `held` characters of the line; what is above `KEPT` is dropped.
-fn keep(line: &mut [u8], held: usize, c: u8) -> usize
-    requires { (held ≤ kept) × (kept ≤ length line.old) }
-    ensures line_after { take result line.new ≡ take kept (take held line.old ++ (c ∷ [])) }
-    ensures upper_bound { result ≤ kept }
+fn line_end(block: &[u8]) -> Option<usize>
+    ensures { result ≡ position (λ c. eqb c newline) block.now }
 {
-    if held < KEPT {
-        line[held] = c;
-        return held + 1;
-    }
-    held
+    block.iter().position(|&c| c == b'\n')
 }
 
-// Adds to the `held` characters of the line those of the block from `at` on, up to a line end.
-pub fn cut_line(block: &[u8], at: usize, line: &mut [u8], held: usize) -> Cut
-    requires { (at ≤ length block.now) × (held ≤ kept) × (kept ≤ length line.old) }
-    ensures cuts { Cuts block.now at (take held line.old) line.new result }
-    ensures at_lt_next { (at < length block.now → at < result.next) × (result.next ≤ length block.now) × (result.held ≤ kept) }
+// Adds to the line the characters of the block up to its first line end, and answers what stands behind that; or all of them, and none where no line ends.
+pub fn cut_line<'a>(block: &'a [u8], line: &mut OpenLine) -> Option<&'a [u8]>
+    ensures { Cuts block.now line.old.items line.new.items result }
 {
-    let mut i = 0;
-    let mut h = held;
-    while i < block.len() - at {
-        let c = block[at + i];
-        if c == b'\n' {
-            return Cut {
-                next: at + i + 1,
-                held: h,
-                closed: true,
-            };
+    match line_end(block) {
+        Some(end) => {
+            keep(line, &block[..end]);
+            Some(&block[end + 1..])
         }
-        h = keep(line, h, c);
-        i += 1;
-    }
-    Cut {
-        next: block.len(),
-        held: h,
-        closed: false,
+        None => {
+            keep(line, block);
+            None
+        }
     }
 }

@@ -1,31 +1,16 @@
 // A hexadecimal digit.
-ghost use Rattle.std.specs.Prelude.{◌≡◌};
+ghost use Rattle.std.specs.Prelude.{◌≡◌, ◌<◌, MatchOption};
 ghost use Rattle.hexlines.specs.Digit.{worth};
 
-// What `worth` answers for a character that is no digit.
-pub(crate) const NO_DIGIT: u8 = 16;
-
-// What the digit `c` of either case is worth.
-pub(crate) fn worth(c: u8) -> u8
-    ensures { result ≡ worth c }
+// What the digit of either case is worth, or that it is none.
+#[tactic(auto, unfolding(crate::specs::Digit::worth))]
+pub(crate) fn worth(c: u8) -> Option<u8>
+    ensures { MatchOption result (worth c ≡ 16) (λ w. (w ≡ worth c) × (w < 16)) }
 {
-    if c < b'0' {
-        return NO_DIGIT;
+    match c {
+        b'0'..=b'9' => Some(c - b'0'),
+        b'A'..=b'F' => Some(c - b'A' + 10),
+        b'a'..=b'f' => Some(c - b'a' + 10),
+        _ => None,
     }
-    if c <= b'9' {
-        return c - b'0';
-    }
-    if c < b'A' {
-        return NO_DIGIT;
-    }
-    if c <= b'F' {
-        return c - b'A' + 10;
-    }
-    if c < b'a' {
-        return NO_DIGIT;
-    }
-    if c <= b'f' {
-        return c - b'a' + 10;
-    }
-    NO_DIGIT
 }

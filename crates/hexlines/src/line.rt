@@ -1,60 +1,51 @@
 // A line of hexadecimal.
-ghost use Rattle.std.specs.Prelude.{◌≡◌, true, ◌*◌, ◌≤◌, length, take};
+ghost use Rattle.std.specs.Prelude.{◌≡◌, ◌*◌, ◌/◌, ◌≤◌, length, IsSome, IsTrue, ◌↔◌, OnSome};
 ghost use Rattle.bigendian.specs.Lists.{tab};
 ghost use Rattle.hexlines.specs.Digit.{are_digits, pair};
 ghost use Rattle.hexlines.specs.Line.{kind_of};
-ghost use Rattle.hexlines.specs.Inner.Answers.{of_line, file_size};
+ghost use Rattle.hexlines.specs.Inner.Answers.{of_line};
 
-use crate::digit::{NO_DIGIT, worth};
+use crate::digit::worth;
+use arrayvec::ArrayVec;
 
 pub const MAX_LINE: usize = 16384;
 
-// What a line answers: it is too long, it is no hexadecimal, or it spells a file of so many bytes.
-#[derive(Clone, Copy)]
-pub enum Line {
+// The bytes that the longest line spells.
+pub const MAX_FILE: usize = 8192;
+
+pub type FileBytes = ArrayVec<u8, MAX_FILE>;
+
+// Why a line spells no file.
+#[derive(Clone, Copy, Debug, PartialEq, Eq)]
+pub enum NoFile {
     Long,
     Hex,
-    File(usize),
 }
 
-// Whether the first 2 `n` characters of `text` are digits; the `n` bytes that they spell go to the start of `file`.
-fn decode(text: &[u8], n: usize, file: &mut [u8]) -> bool
-    requires { (n * 2 ≤ length text.now) × (n ≤ length file.old) }
-    ensures value { result ≡ are_digits (n * 2) text.now }
-    ensures file_after { result ≡ true → take n file.new ≡ tab (pair text.now) n }
+// The bytes that the digits spell, two a byte; none where a character is no digit.
+fn decode(text: &[u8], file: &mut FileBytes) -> Option<()>
+    requires { length text.now ≤ 16384 }
+    ensures value { IsSome result ↔ IsTrue (are_digits (length text.now / 2 * 2) text.now) }
+    ensures file_after { OnSome result (file.new.items ≡ tab (pair text.now) (length text.now / 2)) }
 {
-    let mut i = 0;
-    while i < n {
-        let high = worth(text[2 * i]);
-        if NO_DIGIT <= high {
-            return false;
-        }
-        let low = worth(text[2 * i + 1]);
-        if NO_DIGIT <= low {
-            return false;
-        }
-        file[i] = high * 16 + low;
-        i += 1;
+    file.clear();
+    for i in 0..text.len() / 2 {
+        let high = worth(text[2 * i])?;
+        let low = worth(text[2 * i + 1])?;
+        file.push(high * 16 + low);
     }
-    true
+    Some(())
 }
 
-// What the line `text` answers; the bytes of its file go to the start of `file`.
-pub fn line_answer(text: &[u8], file: &mut [u8]) -> Line
-    requires { 8192 ≤ length file.old }
-    ensures means { of_line result file.new ≡ kind_of text.now }
-    ensures fits { file_size result ≤ 8192 }
+// The bytes of the file that the line `text` spells, or why it spells none.
+pub fn line_answer(text: &[u8], file: &mut FileBytes) -> Result<(), NoFile>
+    ensures { of_line result file.new.items ≡ kind_of text.now }
 {
-    let n = text.len();
-    if MAX_LINE < n {
-        return Line::Long;
+    if MAX_LINE < text.len() {
+        return Err(NoFile::Long);
     }
-    if n % 2 != 0 {
-        return Line::Hex;
+    if text.len() % 2 != 0 {
+        return Err(NoFile::Hex);
     }
-    let bytes = n / 2;
-    if decode(text, bytes, file) {
-        return Line::File(bytes);
-    }
-    Line::Hex
+    decode(text, file).ok_or(NoFile::Hex)
 }

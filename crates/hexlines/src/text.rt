@@ -1,62 +1,55 @@
-// Text that grows in a buffer.
-ghost use Rattle.std.specs.Prelude.{◌+◌, ◌≤◌, [], ◌∷◌, length};
+// Text that grows in a buffer with room for `N` bytes.
+ghost use Rattle.std.specs.Prelude.{◌≡◌, ◌+◌, ◌≤◌, ◌++◌, length};
+ghost use Rattle.arrayvec.specs.ArrayVec.{array_vec_len};
 ghost use Rattle.hexlines.specs.Text.{decimal, field, field_text};
-ghost use Rattle.hexlines.specs.Inner.Grown.{Grown};
 
-// Puts `more` behind the first `at` bytes of `out`, and answers where it ends.
-pub fn put_text(out: &mut [u8], at: usize, more: &[u8]) -> usize
-    requires { at + length more.now ≤ length out.old }
-    ensures { Grown out.old at more.now out.new result }
+use arrayvec::ArrayVec;
+
+// Puts `more` behind the text.
+pub fn put_text<const N: usize>(out: &mut ArrayVec<u8, N>, more: &[u8])
+    requires { array_vec_len out.old + length more.now ≤ N }
+    ensures { out.new.items ≡ out.old.items ++ more.now }
 {
-    let mut i = 0;
-    while i < more.len() {
-        out[at + i] = more[i];
-        i += 1;
-    }
-    at + i
+    out.try_extend_from_slice(more).unwrap();
 }
 
-fn put_byte(out: &mut [u8], at: usize, c: u8) -> usize
-    requires { at + 1 ≤ length out.old }
-    ensures { Grown out.old at (c ∷ []) out.new result }
-{
-    out[at] = c;
-    at + 1
-}
-
-// Puts `n` in decimal behind the first `at` bytes of `out`.
-fn put_decimal(out: &mut [u8], at: usize, n: u64) -> usize
-    requires { at + 20 ≤ length out.old }
-    ensures { Grown out.old at (decimal n) out.new result × (result ≤ at + 20) }
+// Puts `n` in decimal behind the text.
+fn put_decimal<const N: usize>(out: &mut ArrayVec<u8, N>, n: u64)
+    requires { array_vec_len out.old + 20 ≤ N }
+    ensures text { out.new.items ≡ out.old.items ++ decimal n }
+    ensures fits { array_vec_len out.new ≤ array_vec_len out.old + 20 }
 {
     let mut digits = [0u8; 20];
     let k = io::decimal(n, &mut digits);
-    put_text(out, at, &digits[..k])
+    put_text(out, &digits[..k]);
 }
 
-// Puts `n` in decimal and the character `c` behind the first `at` bytes of `out`.
-fn put_field(out: &mut [u8], at: usize, n: u64, c: u8) -> usize
-    requires { at + 21 ≤ length out.old }
-    ensures { Grown out.old at (field n c) out.new result × (result ≤ at + 21) }
+// Puts `n` in decimal and the character `c` behind the text.
+#[tactic(auto, unfolding(crate::specs::Text::field))]
+fn put_field<const N: usize>(out: &mut ArrayVec<u8, N>, n: u64, c: u8)
+    requires { array_vec_len out.old + 21 ≤ N }
+    ensures text { out.new.items ≡ out.old.items ++ field n c }
+    ensures fits { array_vec_len out.new ≤ array_vec_len out.old + 21 }
 {
-    let end = put_decimal(out, at, n);
-    put_byte(out, end, c)
+    put_decimal(out, n);
+    out.push(c);
 }
 
-// Puts the fields of an answer behind the first `at` bytes of `out`.
-pub fn put_fields(
-    out: &mut [u8],
-    at: usize,
+// Puts the fields of an answer behind the text.
+#[tactic(auto, unfolding(crate::specs::Text::field_text))]
+pub fn put_fields<const N: usize>(
+    out: &mut ArrayVec<u8, N>,
     number: u64,
     place: u64,
     records: u64,
     end: u64,
-) -> usize
-    requires { at + 84 ≤ length out.old }
-    ensures { Grown out.old at (field_text number place records end) out.new result × (result ≤ at + 84) }
+)
+    requires { array_vec_len out.old + 84 ≤ N }
+    ensures text { out.new.items ≡ out.old.items ++ field_text number place records end }
+    ensures fits { array_vec_len out.new ≤ array_vec_len out.old + 84 }
 {
-    let a = put_field(out, at, number, b' ');
-    let b = put_field(out, a, place, b' ');
-    let c = put_field(out, b, records, b' ');
-    put_field(out, c, end, b'\n')
+    put_field(out, number, b' ');
+    put_field(out, place, b' ');
+    put_field(out, records, b' ');
+    put_field(out, end, b'\n');
 }

@@ -1,97 +1,48 @@
 -- Laws of lines in blocks of text.
-use Prim.Native.Nat.{ℕ, ◌+◌, ◌-◌, ◌≤◌, ◌<◌}
-use mathlib.Core.Path.{◌≡◌, refl, sym, ap, ◌∙◌}
-use mathlib.Core.Bool.{true, false}
+use Rattle.std.proofs.Common.{ℕ, zero, suc, ◌≡◌, ◌+◌, ◌≤◌, ◌<◌, true, false, List, [], ◌∷◌, ◌++◌, length, take, get_or, min, eqb, arith}
+use mathlib.Core.Path.{sym, ◌∙◌}
 use mathlib.Core.Logic.{⊎_elim}
-use mathlib.Core.List.{List, [], ◌∷◌, ◌++◌, append_assoc, append-nil}
-use native.Mathlib.Omega.{arith}
-use native.Mathlib.Numerals.{add-one}
-use borrow.Author.Tests.{lt-ltb, le-ltb, eq-eqb, ne_eqb}
-use lib.ListN.{length, take, drop, get_or, set, length-append, length-drop}
-use lib.Seq.{take_all, take-take, take-suc, take-suc-set, take-append-le, length-take-le, get_or-drop}
-use lib.Dec.{eqb}
-use Rattle.cdf.proofs.Laws.Below.{order, first-none, first-is}
+use mathlib.Core.Bool.{Bool, not}
+use native.Mathlib.Nat.{eq-or-lt_of_le}
+use Rattle.std.specs.List.{position_or_len}
+use Rattle.std.proofs.Math.Seq.{take-append-add}
+use Rattle.std.proofs.lemmas.Grind.{common_steps}
+use Rattle.std.proofs.lemmas.List.Sums.{prefix_len-le-length}
+use Rattle.cdf.proofs.Laws.Below.{first-none, first-is}
 use Rattle.hexlines.specs.Lines.{newline}
-use Rattle.hexlines.specs.Inner.Cut.{before, kept, Cuts}
+use Rattle.hexlines.specs.Inner.Cut.{before}
 
--- a character that is kept, and one that is not
-pub keep-room : (s : List ℕ) (held c : ℕ) → held < length s → held < kept → take (held + 1) (set s held c) ≡ take kept (take held s ++ (c ∷ []))
-keep-room s held c h l =
-    let e = length-append (take held s) (c ∷ []) in
-    let f = length-take-le held s (omega arith) in
-    rw (add-one, take-suc-set s held c h) (sym (take_all kept (take held s ++ (c ∷ [])) (omega (arith, e, f))))
+-- what is added to a line that is short enough is cut where the line becomes too long
+pub take-room : (n m : ℕ) (x y : List ℕ) → length x + m ≡ n → x ++ take m y ≡ take n (x ++ y)
+take-room n m x y e = rw (← e) (sym (take-append-add x y m))
 
-pub keep-full : (s : List ℕ) (held c : ℕ) → held ≤ length s → kept ≤ held → held ≤ kept → take held s ≡ take kept (take held s ++ (c ∷ []))
-keep-full s held c h l m =
-    let f = length-take-le held s h in
-    sym (take-append-le kept (take held s) (c ∷ []) (omega (arith, f)) ∙ take_all kept (take held s) (omega (arith, f)))
+pub take-min : (n : ℕ) (y : List ℕ) → take (min (length y) n) y ≡ take n y
+take-min n y = grind (arith, common_steps)
 
 -- what is added to the first n of a list, and cut again, is what is added to the whole and cut
 pub take-grow : (n : ℕ) (x y : List ℕ) → take n (take n x ++ y) ≡ take n (x ++ y)
-take-grow n x y =
+take-grow n x y = grind (arith, common_steps)
+
+abbrev pub is_end : ℕ → Bool
+is_end c = eqb c newline
+
+unended : (s : List ℕ) (k : ℕ) → k < position_or_len is_end s → is_end (get_or s k 0) ≡ false
+unended [] k l = grind (arith, common_steps)
+unended (c ∷ cs) zero l = grind (arith, common_steps)
+unended (c ∷ cs) (suc k) l = let r = unended cs k in grind (arith, common_steps, r)
+
+ended : (s : List ℕ) → position_or_len is_end s < length s → is_end (get_or s (position_or_len is_end s) 0) ≡ true
+ended [] l = grind (arith, common_steps)
+ended (c ∷ cs) l = let r = ended cs in grind (arith, common_steps, r)
+
+pub pos_le : (s : List ℕ) → position_or_len is_end s ≤ length s
+pos_le s = prefix_len-le-length (λ c. not (is_end c)) s
+
+-- where the library finds the first line end
+pub before-position : (s : List ℕ) → before s ≡ position_or_len (λ c. eqb c newline) s
+unfolding before
+before-position s =
     ⊎_elim
-    (λ (l : length x ≤ n). ap (λ (t : List ℕ). take n (t ++ y)) (take_all n x l))
-    (λ (l : n < length x).
-    let f = length-take-le n x (omega arith) in
-    take-append-le n (take n x) y (omega (arith, f)) ∙ take-take n n x (omega arith) ∙ sym (take-append-le n x y (omega arith)))
-    (order (length x) n)
-
-module _ (block begun : List ℕ) (at : ℕ) where
-  -- nothing is added yet, and one character more
-  pub cut-none : length begun ≤ kept → begun ≡ take kept (begun ++ take 0 (drop at block))
-  cut-none h = rw append-nil (sym (take_all kept begun h))
-
-  pub cut-more : (i c : ℕ) (t u : List ℕ) → at + i < length block → c ≡ get_or block (at + i) 0
-      → t ≡ take kept (begun ++ take i (drop at block)) → u ≡ take kept (t ++ (c ∷ []))
-      → u ≡ take kept (begun ++ take (i + 1) (drop at block))
-  cut-more i c t u h p e f =
-      let d = length-drop at block in
-      let g : c ≡ get_or (drop at block) i 0 = p ∙ sym (get_or-drop at block i 0) in
-      f
-      ∙ ap (λ (l : List ℕ). take kept (l ++ (c ∷ []))) e
-      ∙ take-grow kept (begun ++ take i (drop at block)) (c ∷ [])
-      ∙ ap (take kept) (append_assoc begun (take i (drop at block)) (c ∷ []))
-      ∙ ap (λ (l : List ℕ). take kept (begun ++ l))
-      (ap (λ (x : ℕ). take i (drop at block) ++ (x ∷ [])) g ∙ sym (take-suc (drop at block) i 0 (omega (arith, d))) ∙ ap (λ (k : ℕ). take k (drop at block)) (sym (add-one i)))
-
-  -- the line end is met, or it is not in the block
-  module _ (i : ℕ) (passed : (k : ℕ) → k < i → get_or block (at + k) 0 ≡ newline → ⊥) where
-    pub before-met : at + i < length block → get_or block (at + i) 0 ≡ newline → before (drop at block) ≡ i
-    unfolding before
-    before-met h e =
-        let d = length-drop at block in
-        first-is _ (length (drop at block)) i (omega (arith, d))
-        (λ k l. ap (λ (c : ℕ). eqb c newline) (get_or-drop at block k 0) ∙ ne_eqb (get_or block (at + k) 0) newline (passed k l))
-        (ap (λ (c : ℕ). eqb c newline) (get_or-drop at block i 0) ∙ eq-eqb (get_or block (at + i) 0) newline e)
-
-    pub before-all : at ≤ length block → length block - at ≤ i → before (drop at block) ≡ length (drop at block)
-    unfolding before
-    before-all b h =
-        let d = length-drop at block in
-        first-none _ (length (drop at block))
-        (λ k l. ap (λ (c : ℕ). eqb c newline) (get_or-drop at block k 0) ∙ ne_eqb (get_or block (at + k) 0) newline (passed k (omega (arith, d))))
-
-    pub cut-closed : (h : ℕ) (after : List ℕ) → at + i < length block → get_or block (at + i) 0 ≡ newline
-        → take h after ≡ take kept (begun ++ take i (drop at block))
-        → Cuts block at begun after (record { next = at + i + 1; held = h; closed = true })
-    cut-closed h after l e t =
-        let d = length-drop at block in
-        let b : before (drop at block) ≡ i = before-met l e in
-        record {
-          closed = rw b (sym (lt-ltb i (length (drop at block)) (omega (arith, d))));
-          next = rw b;
-          line = rw b t;
-        }
-
-    pub cut-open : (h : ℕ) (after : List ℕ) → at ≤ length block → i ≤ length block - at → length block - at ≤ i
-        → take h after ≡ take kept (begun ++ take i (drop at block))
-        → Cuts block at begun after (record { next = length block; held = h; closed = false })
-    cut-open h after a m l t =
-        let d = length-drop at block in
-        let b : before (drop at block) ≡ length (drop at block) = before-all a l in
-        let e : i ≡ length (drop at block) = omega (arith, d) in
-        record {
-          closed = rw b (sym (le-ltb (length (drop at block)) (length (drop at block)) (omega arith)));
-          next = refl;
-          line = rw (b, ← e) t;
-        }
+    (λ (e : position_or_len is_end s ≡ length s). first-none _ (length s) (λ k l. unended s k (omega (arith, e))) ∙ sym e)
+    (λ (l : position_or_len is_end s < length s). first-is _ (length s) (position_or_len is_end s) l (λ k m. unended s k m) (ended s l))
+    (eq-or-lt_of_le (pos_le s))

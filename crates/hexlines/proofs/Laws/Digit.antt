@@ -1,14 +1,13 @@
 -- Laws of hexadecimal digits.
 use Prim.Native.Nat.{ℕ, ◌+◌, ◌-◌, ◌*◌, ◌≤◌, ◌<◌}
-use mathlib.Core.Path.{◌≡◌, refl, sym}
+use mathlib.Core.Path.{◌≡◌, sym}
 use mathlib.Core.Bool.{true, false}
-use mathlib.Core.List.{List}
+use mathlib.Core.List.{List, [], ◌∷◌, ◌++◌}
 use native.Mathlib.Omega.{arith}
 use native.Mathlib.Numerals.{add-one}
 use borrow.Author.Count.{below_more}
 use borrow.Author.Tests.{lt-ltb, le-ltb}
-use lib.ListN.{length, get_or, take, set}
-use lib.Seq.{take-suc-set}
+use lib.ListN.{get_or}
 use Rattle.cdf.proofs.Laws.Below.{inside, over, outside, all_hold, one-fails}
 use Rattle.bigendian.specs.Lists.{tab}
 use mathlib.Core.Logic.{◌⊎◌}
@@ -43,18 +42,14 @@ module _ (n : ℕ) (s : List ℕ) where
   digits-not i l e = sym (one-fails _ n i l (le-ltb (worth (get_or s i 0)) 16 e))
 
 -- nothing is spelled yet, and one byte more
-pub spelled_none : (s out : List ℕ) → take 0 out ≡ tab (pair s) 0
+pub none-spelled : (s out : List ℕ) → out ≡ [] → out ≡ tab (pair s) 0
 unfolding tab
-spelled_none s out = refl
+none-spelled s out e = e
 
-pub spelled-more : (s out : List ℕ) (i h l : ℕ) → i < length out → take i out ≡ tab (pair s) i → h ≡ worth (get_or s (2 * i) 0)
-    → l ≡ worth (get_or s (2 * i + 1) 0) → take (i + 1) (set out i (h * 16 + l)) ≡ tab (pair s) (i + 1)
+pub one-more : (s out new : List ℕ) (i h l : ℕ) → out ≡ tab (pair s) i → new ≡ out ++ ((h * 16 + l) ∷ []) → h ≡ worth (get_or s (2 * i) 0)
+    → l ≡ worth (get_or s (2 * i + 1) 0) → new ≡ tab (pair s) (i + 1)
 unfolding tab pair
-spelled-more s out i h l b e p q = rw (add-one, take-suc-set out i (h * 16 + l) b, e, p, q)
-
--- at the end of a loop that counts to n
-pub exactly : (s out : List ℕ) (n i : ℕ) → i ≡ n → take i out ≡ tab (pair s) i → take n out ≡ tab (pair s) n
-exactly s out n i e h = rw e at h
+one-more s out new i h l e n p q = rw (add-one, n, e, p, q)
 
 -- two characters more
 pub two-more : (s : List ℕ) (i : ℕ) → ((k : ℕ) → k < i * 2 → worth (get_or s k 0) < 16) → worth (get_or s (2 * i) 0) < 16

@@ -1,17 +1,11 @@
 -- What the answer of the function that looks at a line means.
-use Rattle.std.specs.Prelude.{ℕ, List, take}
+use Rattle.std.specs.Prelude.{ℕ, List, Result, Ok, Err}
 use Rattle.hexlines.specs.Line.{LineKind, long, hex, file}
-use Rattle.hexlines.specs.declared.line.Line.{Line}
-use Rattle.hexlines.specs.declared.line.Line.TheVariants.{Long, Hex, File}
+use Rattle.hexlines.specs.declared.line.NoFile.{NoFile}
+use Rattle.hexlines.specs.declared.line.NoFile.TheVariants.{Long, Hex}
 
--- a line, where `bytes` starts with the bytes of its file
-abbrev pub of_line : Line → List ℕ → LineKind
-of_line Long bytes = long
-of_line Hex bytes = hex
-of_line (File n) bytes = file (take n bytes)
-
--- the length of its file
-abbrev pub file_size : Line → ℕ
-file_size Long = 0
-file_size Hex = 0
-file_size (File n) = n
+-- a line, where `bytes` are those of its file
+abbrev pub of_line : Result Unit NoFile → List ℕ → LineKind
+of_line (Err Long) bytes = long
+of_line (Err Hex) bytes = hex
+of_line (Ok _) bytes = file bytes

@@ -1,14 +1,15 @@
 -- Laws of what the listing program prints.
-use Prim.Native.Nat.{ℕ, ◌+◌, ◌-◌, ◌≤◌, ◌<◌}
+use Prim.Native.Nat.{ℕ, ◌+◌, ◌≤◌, ◌<◌}
 use native.Mathlib.Omega.{arith}
 use mathlib.Core.Path.{◌≡◌, refl, sym, ap, subst, ◌∙◌}
 use mathlib.Core.Bool.{Bool, true, false, cond}
 use mathlib.Core.Logic.{⊎_elim}
 use mathlib.Core.List.{List, [], ◌∷◌, ◌++◌, append_assoc, append-nil}
-use lib.ListN.{length, take, drop, length-drop}
-use lib.Seq.{take_all, take-add, drop-drop, length-take-le}
+use lib.ListN.{length, take, drop}
+use lib.Seq.{take_all, length-take-le}
+use Rattle.std.proofs.lemmas.List.{take-append-drop}
 use lib.Dec.{eqb}
-use borrow.Author.Tests.{ne_eqb, ltb-true, ltb-false}
+use borrow.Author.Tests.{ne_eqb}
 use Rattle.header.specs.Header.{read_header}
 use Rattle.header.specs.declared.reader.Header.{Header}
 use Rattle.cdf.specs.Magic.{both_versions}
@@ -16,8 +17,7 @@ use Rattle.cdf.proofs.Laws.Below.{order}
 use Rattle.hexlines.specs.Line.{LineKind, long, hex, file, kind_of}
 use Rattle.hexlines.specs.Lines.{newline, lines}
 use Rattle.hexlines.specs.Text.{field_text}
-use Rattle.hexlines.specs.Inner.Cut.{before, kept, Cuts}
-use Rattle.hexlines.specs.declared.cut.Cut.{Cut}
+use Rattle.hexlines.specs.Inner.Cut.{before, kept}
 use Rattle.hexlines.proofs.Laws.Cut.{take-grow}
 use Rattle.hexlines.proofs.Laws.Line.{kind-kept}
 use Rattle.hexlines.proofs.Laws.Lines.{lines-open, lines-close}
@@ -66,93 +66,76 @@ left-kept (c ∷ cs) begun = by (eqb c newline) (left-kept cs (take kept begun +
     by false f g = sym f ∙ ap (λ (x : List ℕ). left x cs) (take-grow kept begun (c ∷ [])) ∙ g
 
 -- ---- what is left at the end of the text
-pub left-none : (line : List ℕ) (held : ℕ) → held ≡ 0 → [] ≡ left (take held line) []
+pub left_none : (line : List ℕ) → length line ≡ 0 → [] ≡ left line []
 unfolding left lines answers
-left-none line held e = rw e
+left_none [] e = refl
+left_none (c ∷ cs) e = absurd (omega arith)
 
-pub left-last : {shown : List ℕ} (b : List ℕ) → (length b ≡ 0 → ⊥) → shown ≡ text (kind_of b) → shown ≡ left b []
+pub left_last : {shown : List ℕ} (b : List ℕ) → (length b ≡ 0 → ⊥) → shown ≡ text (kind_of b) → shown ≡ left b []
 unfolding left lines answers
-left-last b n e = rw (ne_eqb (length b) 0 n) (e ∙ sym (append-nil (text (kind_of b))))
+left_last b n e = rw (ne_eqb (length b) 0 n) (e ∙ sym (append-nil (text (kind_of b))))
 
--- ---- what one cut of the block adds
-module _ (block begun after : List ℕ) (at : ℕ) (r : Cut) (cut : Cuts block at begun after r) where
-  abbrev d : List ℕ
-  d = drop at block
-
-  cut-open : r.closed ≡ false → Turns begun d [] (take r.held after)
+-- ---- what one cut of a block adds to the line that is begun, of which the first characters are held
+module _ (d begun after : List ℕ) (line : after ≡ take kept (begun ++ take (before d) d)) where
+  cut-open : before d ≡ length d → Turns begun d [] after
   unfolding left
   cut-open e =
-      let n = ltb-false (before d) (length d) (sym cut.closed ∙ e) in
-      let all : take (before d) d ≡ d = take_all (before d) d n in
+      let all : take (before d) d ≡ d = take_all (before d) d (omega (arith, e)) in
       record {
         same = λ rest.
-            ap answers (lines-open d begun rest n)
+            ap answers (lines-open d begun rest (omega (arith, e)))
             ∙ sym (left-kept rest (begun ++ d))
-            ∙ ap (λ (x : List ℕ). left x rest) (sym (cut.line ∙ ap (λ (x : List ℕ). take kept (begun ++ x)) all));
+            ∙ ap (λ (x : List ℕ). left x rest) (sym (line ∙ ap (λ (x : List ℕ). take kept (begun ++ x)) all));
       }
 
-  cut-closed : r.closed ≡ true → Turns begun (take (before d + 1) d) (text (kind_of (take r.held after))) []
+  cut-closed : before d < length d → Turns begun (take (before d + 1) d) (text (kind_of after)) []
   unfolding left answers
-  cut-closed e =
-      let n = ltb-true (before d) (length d) (sym cut.closed ∙ e) in
+  cut-closed l =
       record {
         same = λ rest.
-            ap answers (lines-close d begun rest n)
-            ∙ ap (λ (x : List ℕ). x ++ answers (lines [] rest)) (sym (same_text (begun ++ take (before d) d)) ∙ ap (λ (x : List ℕ). text (kind_of x)) (sym cut.line));
+            ap answers (lines-close d begun rest l)
+            ∙ ap (λ (x : List ℕ). x ++ answers (lines [] rest)) (sym (same_text (begun ++ take (before d) d)) ∙ ap (λ (x : List ℕ). text (kind_of x)) (sym line));
       }
 
 -- ---- turns, one after the other
 pub turns-none : (begun : List ℕ) → Turns begun [] [] begun
 turns-none begun = record { same = λ rest. refl }
 
-pub turns-start : (begun block : List ℕ) (at : ℕ) (out : List ℕ) → Turns begun (take (at - at) (drop at block)) (take 0 out) begun
-turns-start begun block at out =
-    let z : 0 ≡ at - at = omega arith in
-    subst (λ (n : ℕ). Turns begun (take n (drop at block)) [] begun) z (turns-none begun)
-
 pub turns_then : {a b c x y p q : List ℕ} → Turns a x p b → Turns b y q c → Turns a (x ++ y) (p ++ q) c
 turns_then {a} {b} {c} {x} {y} {p} {q} f g =
     record { same = λ rest. ap (left a) (append_assoc x y rest) ∙ f.same (y ++ rest) ∙ ap (λ (z : List ℕ). p ++ z) (g.same rest) ∙ sym (append_assoc p q (left c rest)) }
 
--- the same turn, by equal parts and equal outputs
-turns_same : {a b x y p q : List ℕ} → x ≡ y → p ≡ q → Turns a x p b → Turns a y q b
-turns_same {a} {b} {x} {y} {p} {q} e f t = subst (λ (z : List ℕ). Turns a z q b) e (subst (λ (z : List ℕ). Turns a x z b) f t)
+-- the same turn, with an equal output
+turns_same : {a b x p q : List ℕ} → p ≡ q → Turns a x p b → Turns a x q b
+turns_same {a} {b} {x} e t = subst (λ (z : List ℕ). Turns a x z b) e t
 
--- a turn more on a block, and all of it
-pub turn_more : {begun p q b c : List ℕ} (block : List ℕ) (at n : ℕ) → at ≤ n → Turns begun (take at block) p b → Turns b (take (n - at) (drop at block)) q c → Turns begun (take n block) (p ++ q) c
-turn_more block at n h f g =
-    let e : at + (n - at) ≡ n = omega arith in
-    turns_same (sym (take-add at (n - at) block) ∙ ap (λ (k : ℕ). take k block) e) refl (turns_then f g)
+-- a block of which a part is taken in turns, which print p, and `rest` is left, so that `line` is open
+pub record Taken (block rest begun p line : List ℕ) : Type 0 where
+  pub part : List ℕ
+  pub whole : block ≡ part ++ rest
+  pub so : Turns begun part p line
 
-pub turn-all : {begun p b : List ℕ} (block : List ℕ) (at : ℕ) → length block ≤ at → Turns begun (take at block) p b → Turns begun block p b
-turn-all block at h t = turns_same (take_all at block h) refl t
+pub taken-none : (block begun : List ℕ) → Taken block block begun [] begun
+taken-none block begun = record { part = []; whole = refl; so = turns-none begun }
 
--- one cut more of a block, of which a part is taken
-part-more : (block : List ℕ) (at n k : ℕ) → at ≤ n → take (n - at) (drop at block) ++ take k (drop n block) ≡ take (n + k - at) (drop at block)
-part-more block at n k h =
-    let a : at + (n - at) ≡ n = omega arith in
-    let b : n - at + k ≡ n + k - at = omega arith in
-    ap (λ (x : List ℕ). take (n - at) (drop at block) ++ take k x) (sym (drop-drop (n - at) at block ∙ ap (λ (i : ℕ). drop i block) a))
-    ∙ sym (take-add (n - at) k (drop at block))
-    ∙ ap (λ (i : ℕ). take i (drop at block)) b
+-- all of a block
+pub taken-all : {block begun p line : List ℕ} → Taken block [] begun p line → Turns begun block p line
+taken-all {block} {begun} {p} {line} t = subst (λ (x : List ℕ). Turns begun x p line) (sym (append-nil t.part) ∙ sym t.whole) t.so
 
-module _ {begun p : List ℕ} (block line after : List ℕ) (at n h : ℕ) (r : Cut) (low : at ≤ n) (high : n ≤ length block)
-    (so : Turns begun (take (n - at) (drop at block)) p (take h line)) (cut : Cuts block n (take h line) after r) where
-  pub turn-open : r.closed ≡ false → Turns begun (take (r.next - at) (drop at block)) p (take r.held after)
-  turn-open e =
-      let all : drop n block ≡ take (length block - n) (drop n block) = sym (take_all (length block - n) (drop n block) (let l = length-drop n block in omega arith)) in
-      let end : n + (length block - n) ≡ r.next = let q = cut.next ∙ ap (λ (b : Bool). cond b (n + before (drop n block) + 1) (length block)) e in omega arith in
-      let x : take (n - at) (drop at block) ++ drop n block ≡ take (r.next - at) (drop at block) =
-      ap (λ (y : List ℕ). take (n - at) (drop at block) ++ y) all ∙ part-more block at n (length block - n) low ∙ ap (λ (i : ℕ). take (i - at) (drop at block)) end in
-      turns_same x (append-nil p) (turns_then so (cut-open block (take h line) after n r cut e))
+pub taken-more : {block rest rest' begun p q line line' x : List ℕ} → Taken block rest begun p line → rest ≡ x ++ rest' → Turns line x q line' → Taken block rest' begun (p ++ q) line'
+taken-more {rest' = rest'} {x = x} t e f =
+    record { part = t.part ++ x; whole = t.whole ∙ ap (λ (r : List ℕ). t.part ++ r) e ∙ sym (append_assoc t.part x rest'); so = turns_then t.so f }
 
-  pub turn-closed : {q : List ℕ} → r.closed ≡ true → q ≡ p ++ text (kind_of (take r.held after)) → Turns begun (take (r.next - at) (drop at block)) q []
-  turn-closed {q} e f =
-      let b = before (drop n block) in
-      let end : n + (b + 1) ≡ r.next = let g = cut.next ∙ ap (λ (c : Bool). cond c (n + b + 1) (length block)) e in omega arith in
-      let x : take (n - at) (drop at block) ++ take (b + 1) (drop n block) ≡ take (r.next - at) (drop at block) =
-      part-more block at n (b + 1) low ∙ ap (λ (i : ℕ). take (i - at) (drop at block)) end in
-      turns_same x (sym f) (turns_then so (cut-closed block (take h line) after n r cut e))
+module _ {block rest begun p line after : List ℕ} (t : Taken block rest begun p line) (held : after ≡ take kept (line ++ take (before rest) rest)) where
+  -- a line more, which the block closes, and then its last part, which closes none
+  pub taken-line : {next q shown : List ℕ} → shown ≡ after → before rest < length rest → next ≡ drop (before rest + 1) rest → q ≡ p ++ text (kind_of shown) → Taken block next begun q []
+  taken-line {next} s l n e =
+      rw (e, s) (taken-more t (sym (ap (λ (x : List ℕ). take (before rest + 1) rest ++ x) n ∙ take-append-drop (before rest + 1) rest)) (cut-closed rest line after held l))
+
+  pub taken-part : before rest ≡ length rest → Taken block [] begun p after
+  taken-part e =
+      let m = taken-more t (sym (append-nil rest)) (cut-open rest line after held e) in
+      record { part = m.part; whole = m.whole; so = turns_same (append-nil p) m.so }
 
 runs-left : {begun text more : List ℕ} → Runs begun text more → more ≡ left begun text
 runs-left (ends begun) = refl

@@ -1,9 +1,10 @@
-use native.Mathlib.Omega.{arith}
-use Rattle.hexlines.proofs.Laws.Cut.{keep-room, keep-full}
+use Rattle.std.proofs.Common.{rules, arith}
+use Rattle.hexlines.proofs.Laws.Cut.{take-room, take-min}
+use Rattle.hexlines.specs.Inner.Cut.{kept}
 use Rattle.hexlines.proofs.cut.keep.Goals as goal
 
-pub returns-then-held-lt-KEPT : goal.returns-then-held-lt-KEPT
-returns-then-held-lt-KEPT c = record { line_after = keep-room c.args.line.now c.args.held c.args.c (omega arith) (omega arith); upper_bound = omega arith }
-
 pub returns : goal.returns
-returns c = record { line_after = keep-full c.args.line.now c.args.held c.args.c (omega arith) (omega arith) (omega arith); upper_bound = omega arith }
+returns c =
+    let t = take-room kept c.remaining_capacity.result c.args.line.now.items c.args.more.now (omega (arith, c.remaining_capacity.ensures)) in
+    let m = take-min c.remaining_capacity.result c.args.more.now in
+    rw (← t, ← m) (search rules)

@@ -1,27 +1,40 @@
-use borrow.Author.Rules.{rules}
-use native.Mathlib.Omega.{arith}
-use borrow.Author.Count.{below_none}
-use mathlib.Core.Path.{subst}
-use Prim.Native.Nat.{ℕ, ◌+◌, ◌*◌, ◌<◌}
-use Rattle.hexlines.proofs.Laws.Digit.{digits-all, digits-not, spelled_none, spelled-more, two-more, exactly}
+use Rattle.std.proofs.Common.{rules, arith, ◌≡◌, ◌+◌, ◌*◌, ◌/◌, ◌<◌, length, get_or}
+use Rattle.std.proofs.lemmas.Grind.{common_steps}
+use Rattle.bigendian.proofs.Laws.Lists.{length-tab}
+use Rattle.hexlines.specs.Digit.{worth, pair}
+use Rattle.hexlines.proofs.Laws.Digit.{digits-all, digits-not, two-more, none-spelled, one-more}
 use Rattle.hexlines.proofs.line.decode.Goals as goal
 
 pub loop-i-init : goal.loop-i-init
-loop-i-init c = (search rules, search rules, below_none _, spelled_none c.args.text.now c.args.file.now)
+loop-i-init c = (none-spelled c.args.text.now c.clear.new.self.items c.clear.ensures, λ k l. absurd (omega arith))
 
-pub returns-then-high-ge-NO_DIGIT : goal.returns-then-high-ge-NO_DIGIT
-returns-then-high-ge-NO_DIGIT c = record { value = digits-not _ _ (2 * c.loop-i.i) (omega arith) (omega (arith, c.worth-high.ensures)); file_after = λ e. cc }
+pub returns-in_err-high-clause-value : goal.returns-in_err-high-clause-value
+returns-in_err-high-clause-value c =
+    let w : worth (get_or c.args.text.now (2 * c.loop-i.i) 0) ≡ 16 = search rules in
+    let n = digits-not (length c.args.text.now / 2 * 2) c.args.text.now (2 * c.loop-i.i) (omega arith) (omega (arith, w)) in
+    grind (arith, common_steps, n)
 
-pub returns-then-low-ge-NO_DIGIT : goal.returns-then-low-ge-NO_DIGIT
-returns-then-low-ge-NO_DIGIT c = record { value = digits-not _ _ (2 * c.loop-i.i + 1) (omega arith) (omega (arith, c.worth-low.ensures)); file_after = λ e. cc }
+pub returns-in_err-low-clause-value : goal.returns-in_err-low-clause-value
+returns-in_err-low-clause-value c =
+    let w : worth (get_or c.args.text.now (2 * c.loop-i.i + 1) 0) ≡ 16 = search rules in
+    let n = digits-not (length c.args.text.now / 2 * 2) c.args.text.now (2 * c.loop-i.i + 1) (omega arith) (omega (arith, w)) in
+    grind (arith, common_steps, n)
+
+pub push-requires : goal.push-requires
+push-requires c =
+    let n = length-tab (pair c.args.text.now) c.loop-i.i in
+    grind (arith, common_steps, n)
 
 pub loop-i-preserved : goal.loop-i-preserved
-loop-i-preserved c = (
-  omega arith,
-  search rules,
-  two-more c.args.text.now c.loop-i.i c.loop-i.invariant.2 (subst (λ (w : ℕ). w < 16) c.worth-high.ensures (omega arith)) (subst (λ (w : ℕ). w < 16) c.worth-low.ensures (omega arith)),
-  spelled-more _ _ _ _ _ (omega arith) c.loop-i.invariant.3 c.worth-high.ensures c.worth-low.ensures,
-)
+loop-i-preserved c =
+    let l = c.loop-i in
+    let high : (c.in_ok-high.high ≡ worth (get_or c.args.text.now (2 * l.i) 0)) × (c.in_ok-high.high < 16) = search rules in
+    let low : (c.in_ok-low.low ≡ worth (get_or c.args.text.now (2 * l.i + 1) 0)) × (c.in_ok-low.low < 16) = search rules in (
+      one-more c.args.text.now l.file.items c.push.new.self.items l.i _ _ l.invariant.0 c.push.ensures.items high.0 low.0,
+      two-more c.args.text.now l.i l.invariant.1 (omega (arith, high)) (omega (arith, low)),
+    )
 
-pub returns : goal.returns
-returns c = record { value = digits-all _ _ (λ k l. c.loop-i.invariant.2 k (omega arith)); file_after = λ _. exactly _ _ _ _ (omega arith) c.loop-i.invariant.3 }
+pub returns-clause-value : goal.returns-clause-value
+returns-clause-value c =
+    let a = digits-all (length c.args.text.now / 2 * 2) c.args.text.now (λ k h. c.loop-i.invariant.1 k (omega arith)) in
+    grind (arith, common_steps, a)
