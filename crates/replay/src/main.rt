@@ -16,8 +16,7 @@
 // what is expected.
 #![tactic(auto)]
 
-ghost use Rattle.std.specs.Prelude.{◌≡◌, ◌≤◌, length};
-ghost use Rattle.hexlines.specs.Inner.Cut.{kept};
+ghost use Rattle.std.specs.Prelude.{◌≡◌, length};
 
 use crate::converted::show_converted;
 use crate::element::{show_element, show_typed};
@@ -25,13 +24,13 @@ use crate::names::{show_found, show_name};
 use crate::output::{Ask, show_output};
 use crate::shown::show_header;
 use crate::tables::changed;
-use crate::text::{least, numbers};
+use crate::text::numbers;
 use crate::written::show_written;
 use cdf::version::Admitted;
 use grammar::tables::{Tables, blank};
 use header::reader::{Header, read_header};
-use hexlines::cut::cut_line;
-use hexlines::line::{Line, line_answer};
+use hexlines::cut::{OpenLine, cut_line};
+use hexlines::line::{FileBytes, line_answer};
 
 mod converted;
 mod element;
@@ -87,13 +86,11 @@ fn nothing() -> Held {
     }
 }
 
-// The file that the digits spell, whose bytes go to the start of `file`.
-fn loaded(digits: &[u8], file: &mut [u8]) -> Held
-    requires { 8192 ≤ length file.old }
-{
+// The file that the digits spell, whose bytes go to `file`.
+fn loaded(digits: &[u8], file: &mut FileBytes) -> Held {
     match line_answer(digits, file) {
-        Line::File(n) => opened(&file[..n]),
-        _ => nothing(),
+        Ok(()) => opened(file.as_slice()),
+        Err(_) => nothing(),
     }
 }
 
@@ -108,7 +105,7 @@ fn read(kind: u8, a: [u64; 4], t: Tables, s: &[u8], start: u64) {
                 var: a[0] as usize,
                 record: a[1],
                 code: a[2],
-                room: least(a[3] as usize, 64),
+                room: (a[3] as usize).min(64),
             };
             show_output(t, s, start, ask);
         }
@@ -127,24 +124,24 @@ fn look_up(kind: u8, a: [u64; 4], t: Tables, s: &[u8]) {
 // What a line that changes nothing asks of the last file.
 fn answer(kind: u8, a: [u64; 4], file: &[u8], held: Held) {
     let tables = held.tables;
-    let size = least(held.size, file.len());
+    let size = held.size.min(file.len());
     match kind {
         b'h' => {
-            let length = least(a[1] as usize, size);
+            let length = (a[1] as usize).min(size);
             headed(a[0], &file[0..length], a[2]);
         }
         b'x' => {
-            let length = least(a[1] as usize, size);
+            let length = (a[1] as usize).min(size);
             show_written(tables, &file[0..length], a[0] as usize);
         }
         b'1' | b'2' => {
-            let length = least(a[1] as usize, size);
+            let length = (a[1] as usize).min(size);
             show_converted(kind == b'2', &file[0..length], a[2], a[0] as usize);
         }
         b'm' | b'q' => look_up(kind, a, tables, &file[0..size]),
         _ => {
-            let to = least(held.to, file.len());
-            let from = least(held.from, to);
+            let to = held.to.min(file.len());
+            let from = held.from.min(to);
             read(kind, a, tables, &file[from..to], held.start);
         }
     }
@@ -159,7 +156,7 @@ fn asked(kind: u8, a: [u64; 4], file: &[u8], held: Held) -> Held {
         ),
         b'w' => {
             next.from = a[0] as usize;
-            next.to = least(a[1] as usize, held.size);
+            next.to = (a[1] as usize).min(held.size);
             next.start = a[0];
         }
         b's' => next.start = a[0],
@@ -168,9 +165,7 @@ fn asked(kind: u8, a: [u64; 4], file: &[u8], held: Held) -> Held {
     next
 }
 
-fn line(text: &[u8], file: &mut [u8], held: Held) -> Held
-    requires { 8192 ≤ length file.old }
-{
+fn line(text: &[u8], file: &mut FileBytes, held: Held) -> Held {
     if text.len() < 2 {
         return held;
     }
@@ -178,19 +173,18 @@ fn line(text: &[u8], file: &mut [u8], held: Held) -> Held
     if kind == b'f' {
         return loaded(&text[2..], file);
     }
-    asked(kind, numbers(&text[2..]), file, held)
+    asked(kind, numbers(&text[2..]), file.as_slice(), held)
 }
 
-fn lines(text: &[u8], buffer: &mut [u8], file: &mut [u8])
-    requires { (kept ≤ length buffer.old) × (8192 ≤ length file.old) }
-{
+fn lines(text: &[u8]) {
     let mut held = nothing();
-    let mut at = 0;
-    while at < text.len() {
-        let cut = cut_line(text, at, buffer, 0);
-        let chars = cut.held;
-        held = line(&buffer[..chars], file, held);
-        at = cut.next;
+    let mut file = FileBytes::new();
+    let mut open = OpenLine::new();
+    let mut rest = text;
+    while !rest.is_empty() {
+        open.clear();
+        rest = cut_line(rest, &mut open).unwrap_or(&[]);
+        held = line(open.as_slice(), &mut file, held);
     }
 }
 
@@ -203,8 +197,6 @@ fn room() -> [u8; 524288]
 
 fn main() {
     let mut text = room();
-    let mut buffer = [0u8; 16385];
-    let mut file = [0u8; 8192];
     let n = io::read_full(0, &mut text);
-    lines(&text[..n], &mut buffer, &mut file);
+    lines(&text[..n]);
 }

@@ -33,9 +33,7 @@ fn changed_var(kind: u8, n: u64, v: Var) -> Var {
         b'c' => row.code = (n % 256) as u8,
         b'k' => row.rank = (n % 256) as u8,
         b'i' => {
-            let mut ids = row.ids;
-            ids[0] = (n % 4_294_967_296) as u32;
-            row.ids = ids;
+            row.ids[0] = (n % 4_294_967_296) as u32;
         }
         b'p' => row.name = n as usize,
         b'H' => row.chars = (n % 4_294_967_296) as u32,
@@ -48,35 +46,26 @@ fn changed_var(kind: u8, n: u64, v: Var) -> Var {
 }
 
 fn with_dim(kind: u8, i: usize, n: u64, t: Tables) -> Tables {
-    if i >= 32 {
-        return t;
-    }
     let mut tables = t;
-    let mut dims = tables.dims;
-    dims[i] = changed_dim(kind, n, dims[i]);
-    tables.dims = dims;
+    if let Some(row) = tables.dims.get_mut(i) {
+        *row = changed_dim(kind, n, *row);
+    }
     tables
 }
 
 fn with_attr(kind: u8, i: usize, n: u64, t: Tables) -> Tables {
-    if i >= 128 {
-        return t;
-    }
     let mut tables = t;
-    let mut attrs = tables.attrs;
-    attrs[i] = changed_attr(kind, n, attrs[i]);
-    tables.attrs = attrs;
+    if let Some(row) = tables.attrs.get_mut(i) {
+        *row = changed_attr(kind, n, *row);
+    }
     tables
 }
 
 fn with_var(kind: u8, i: usize, n: u64, t: Tables) -> Tables {
-    if i >= 64 {
-        return t;
-    }
     let mut tables = t;
-    let mut vars = tables.vars;
-    vars[i] = changed_var(kind, n, vars[i]);
-    tables.vars = vars;
+    if let Some(row) = tables.vars.get_mut(i) {
+        *row = changed_var(kind, n, *row);
+    }
     tables
 }
 

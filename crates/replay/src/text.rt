@@ -15,13 +15,10 @@ pub fn least(a: usize, b: usize) -> usize
 
 // The number `n` with the digit `c` after it, without what lies above 19 digits.
 fn with_digit(n: u64, c: u8) -> u64 {
-    if c < b'0' {
+    if !c.is_ascii_digit() {
         return n;
     }
-    if c > b'9' {
-        return n;
-    }
-    n % 1_000_000_000_000_000_000 * 10 + wide(c - b'0')
+    n % 1_000_000_000_000_000_000 * 10 + u64::from(c - b'0')
 }
 
 // Which of four numbers goes on after the character `c`; the last goes on where there are more.
@@ -29,25 +26,16 @@ fn field_after(field: usize, c: u8) -> usize
     requires { field < 4 }
     ensures { result < 4 }
 {
-    if c != b' ' {
-        return field;
-    }
-    if field == 3 {
-        return field;
-    }
-    field + 1
+    if c == b' ' { (field + 1).min(3) } else { field }
 }
 
 // The numbers of the text; those that it does not have are 0.
 pub fn numbers(text: &[u8]) -> [u64; 4] {
     let mut out = [0u64; 4];
     let mut field = 0;
-    let mut i = 0;
-    while i < text.len() {
-        let c = text[i];
+    for &c in text {
         field = field_after(field, c);
         out[field] = with_digit(out[field], c);
-        i += 1;
     }
     out
 }
@@ -65,36 +53,33 @@ pub fn show_last(n: u64) {
 }
 
 fn show_signed(n: i64) {
-    if n >= 0 {
-        io::write_all(1, b" ");
-        io::print_decimal(1, n as u64);
-    } else {
-        io::write_all(1, b" -");
-        // the least number has no positive one
-        io::print_decimal(1, (0 - (n + 1)) as u64 + 1);
+    io::write_all(1, b" ");
+    if n < 0 {
+        io::write_all(1, b"-");
     }
+    io::print_decimal(1, n.unsigned_abs());
 }
 
 pub fn show_byte(x: i8) {
-    show_signed(x as i64);
+    show_signed(i64::from(x));
 }
 
 pub fn show_short(x: i16) {
-    show_signed(x as i64);
+    show_signed(i64::from(x));
 }
 
 pub fn show_int(x: i32) {
-    show_signed(x as i64);
+    show_signed(i64::from(x));
 }
 
 pub fn show_char(x: u8) {
     io::write_all(1, b" ");
-    io::print_decimal(1, wide(x));
+    io::print_decimal(1, u64::from(x));
 }
 
 pub fn show_bits32(bits: u32) {
     io::write_all(1, b" ");
-    io::print_hex(1, bits as u64, 8);
+    io::print_hex(1, u64::from(bits), 8);
 }
 
 pub fn show_bits64(bits: u64) {
@@ -104,17 +89,17 @@ pub fn show_bits64(bits: u64) {
 
 // Writes the bits of a float, which a NaN does not have.
 pub fn show_float(x: f32) {
-    if x != x {
+    if x.is_nan() {
         io::write_all(1, b" nan");
         return;
     }
-    show_bits32(f32::to_bits(x));
+    show_bits32(x.to_bits());
 }
 
 pub fn show_double(x: f64) {
-    if x != x {
+    if x.is_nan() {
         io::write_all(1, b" nan");
         return;
     }
-    show_bits64(f64::to_bits(x));
+    show_bits64(x.to_bits());
 }

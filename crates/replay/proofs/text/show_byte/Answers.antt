@@ -1,6 +1,0 @@
-use Rattle.std.proofs.Common.{w8}
-use Rattle.replay.proofs.Laws.Shown.{widens}
-use Rattle.replay.proofs.text.show_byte.Goals as goal
-
-pub overflow_cast-x : goal.overflow_cast-x
-overflow_cast-x c = widens w8 c.args.x tt c.ranges.x

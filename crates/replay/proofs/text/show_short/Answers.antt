@@ -1,6 +1,0 @@
-use Rattle.std.proofs.Common.{w16}
-use Rattle.replay.proofs.Laws.Shown.{widens}
-use Rattle.replay.proofs.text.show_short.Goals as goal
-
-pub overflow_cast-x : goal.overflow_cast-x
-overflow_cast-x c = widens w16 c.args.x tt c.ranges.x
