@@ -1,9 +1,12 @@
 // How a list starts: absent, or a tag and the number of its items.
-ghost use Rattle.std.specs.Prelude.{◌≡◌, ◌≤◌, length};
-ghost use Rattle.cdf.specs.Inner.Answers.{of_word};
+#![tactic(auto, unfolding(crate::specs::Step::bind, crate::specs::Step::test, crate::specs::Step::unfinished, crate::specs::Word::word, crate::specs::Word::non_negative, crate::specs::Word::nelems, crate::specs::ListStart::list_start))]
+
+ghost use Rattle.cdf.specs.Inner.Answers.{Steps};
 ghost use Rattle.cdf.specs.ListStart.{list_start};
 
-use crate::step::{Word, unfinished};
+use crate::place::Place;
+use crate::refusal::Refusal;
+use crate::step::Step;
 use crate::version::begins;
 use crate::word::parse_count;
 
@@ -13,20 +16,17 @@ pub const VARIABLE_TAG: u8 = 0x0B;
 
 pub const ATTRIBUTE_TAG: u8 = 0x0C;
 
-// The number of items of the list at `at`, for which there is room for `room`.
-pub fn parse_list_start(s: &[u8], size: u64, at: usize, tag: u8, room: u64) -> Word
-    requires { at ≤ length s.now }
-    ensures { of_word result ≡ list_start 8 4 tag room s.now size at }
+// The number of items of the list at the place, for which there is room for `room`.
+pub fn parse_list_start(place: Place, tag: u8, room: u64) -> Step<u32>
+    ensures { Steps place.entry (list_start 8 4 tag room) result }
 {
-    if begins(s, at, &[0; 8]) {
-        let n = s.len();
-        if n - at < 8 {
-            return Word::Stop(unfinished(n, size), n);
-        }
-        return Word::Got(0, at + 8);
+    if begins(place, &[0; 8]) {
+        let next = place.skip(8)?;
+        return Ok((0, next));
     }
-    if begins(s, at, &[0, 0, 0, tag]) {
-        return parse_count(s, size, at + 4, room);
+    if begins(place, &[0, 0, 0, tag]) {
+        let count = place.skip(4)?;
+        return parse_count(count, room);
     }
-    Word::Stop(9, at)
+    Err(place.refuse(Refusal::ListStart))
 }

@@ -1,9 +1,13 @@
 // Padding to the next multiple of four bytes.
-ghost use Rattle.std.specs.Prelude.{◌≡◌, ◌+◌, ◌≤◌, length};
-ghost use Rattle.cdf.specs.Inner.Answers.{of_next};
-ghost use Rattle.cdf.specs.Padding.{padding, zeros, zero_padding};
+#![tactic(auto, unfolding(crate::specs::Step::test, crate::specs::Step::unfinished, crate::specs::Padding::zero_padding), using(crate::proofs::Laws::Padding::zeros_part))]
 
-use crate::step::{Next, unfinished};
+ghost use Rattle.std.specs.Prelude.{◌≡◌, ◌==◌};
+ghost use Rattle.std.specs.List.{list_all};
+ghost use Rattle.cdf.specs.Inner.Answers.{Passes};
+ghost use Rattle.cdf.specs.Padding.{padding, zero_padding};
+
+use crate::place::Place;
+use crate::refusal::{Refusal, Stop};
 
 // The number of padding bytes after `count` bytes.
 pub fn compute_padding_size(count: u64) -> u64
@@ -12,33 +16,21 @@ pub fn compute_padding_size(count: u64) -> u64
     (4 - count % 4) % 4
 }
 
-// Whether the `n` bytes from `at` are zero.
-fn all_zero(s: &[u8], at: usize, n: usize) -> bool
-    requires { at + n ≤ length s.now }
-    ensures { result ≡ zeros n s.now at }
+fn all_zero(bytes: &[u8]) -> bool
+    ensures { result ≡ list_all (λ b. b == 0) bytes.now }
 {
-    let mut i = 0;
-    while i < n {
-        if s[at + i] != 0 {
-            return false;
-        }
-        i += 1;
-    }
-    true
+    bytes.iter().all(|b| *b == 0)
 }
 
-// The zero bytes from `at` that fill up `count` bytes before it.
-pub fn parse_zero_padding(s: &[u8], size: u64, at: usize, count: u64) -> Next
-    requires { at ≤ length s.now }
-    ensures { of_next result ≡ zero_padding count s.now size at }
+// The zero bytes that fill up `count` bytes before the place.
+pub fn parse_zero_padding(place: Place, count: u64) -> Result<Place, Stop>
+    ensures { Passes place.entry (zero_padding count) result }
 {
-    let n = s.len();
-    let k = compute_padding_size(count) as usize;
-    if n - at < k {
-        return Next::Stop(unfinished(n, size), n);
+    let k = compute_padding_size(count);
+    let next = place.skip(k)?;
+    if all_zero(&place.bytes[place.at..next.at]) {
+        Ok(next)
+    } else {
+        Err(place.refuse(Refusal::Padding))
     }
-    if all_zero(s, at, k) {
-        return Next::At(at + k);
-    }
-    Next::Stop(7, at)
 }

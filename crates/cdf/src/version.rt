@@ -1,9 +1,14 @@
 // The magic word and the version byte.
-ghost use Rattle.std.specs.Prelude.{◌≡◌, ◌≤◌, length};
-ghost use Rattle.cdf.specs.Inner.Answers.{of_word, of_next};
+#![tactic(auto, unfolding(crate::specs::Step::test, crate::specs::Step::unfinished, crate::specs::Magic::magic, crate::specs::Magic::admits, crate::specs::Magic::version_byte))]
+
+ghost use Rattle.std.specs.Prelude.{◌≡◌, ◌==◌, IfOk};
+ghost use Rattle.std.specs.List.{list_all, zip};
+ghost use Rattle.cdf.specs.Inner.Answers.{Steps, passed};
 ghost use Rattle.cdf.specs.Magic.{begins, magic, admits, version_byte};
 
-use crate::step::{Next, Word, unfinished};
+use crate::place::Place;
+use crate::refusal::{Refusal, Stop};
+use crate::step::Step;
 
 // The versions that a reader admits.
 #[derive(Clone, Copy)]
@@ -12,63 +17,51 @@ pub struct Admitted {
     pub offset64: bool,
 }
 
-// Whether the bytes at hand from `at` begin `pattern`: none of them departs from it.
-pub(crate) fn begins(s: &[u8], at: usize, pattern: &[u8]) -> bool
-    requires { at ≤ length s.now }
-    ensures { result ≡ begins pattern.now s.now at }
+// Whether neither departs from the other, as far as both go.
+fn agree(bytes: &[u8], pattern: &[u8]) -> bool
+    ensures { result ≡ list_all (λ x. x.0 == x.1) (zip bytes.now pattern.now) }
 {
-    let left = s.len() - at;
-    let mut i = 0;
-    while i < pattern.len() {
-        if left <= i {
-            return true;
-        }
-        if s[at + i] != pattern[i] {
-            return false;
-        }
-        i += 1;
-    }
-    true
+    bytes.iter().zip(pattern).all(|(b, p)| *b == *p)
+}
+
+// Whether the bytes at hand from the place begin `pattern`: none of them departs from it.
+pub(crate) fn begins(place: Place, pattern: &[u8]) -> bool
+    ensures { result ≡ begins pattern.now place.entry.bytes.now place.entry.at }
+{
+    agree(&place.bytes[place.at..], pattern)
 }
 
 // The three bytes C, D, F at the start.
-pub fn parse_magic_word(s: &[u8], size: u64) -> Next
-    ensures { of_next result ≡ magic s.now size }
+pub fn parse_magic_word(bytes: &[u8], size: u64) -> Result<Place, Stop>
+    ensures { (passed tt result ≡ magic bytes.now size) × IfOk result (λ q. (q.bytes ≡ bytes.entry) × (q.size ≡ size)) }
 {
-    if begins(s, 0, b"CDF") {
-        let n = s.len();
-        if n < 3 {
-            return Next::Stop(unfinished(n, size), n);
-        }
-        return Next::At(3);
+    let start = Place::start(bytes, size);
+    if begins(start, b"CDF") {
+        start.skip(3)
+    } else {
+        Err(start.refuse(Refusal::NotCdf))
     }
-    Next::Stop(3, 0)
 }
 
 fn admits(admitted: Admitted, version: u8) -> bool
     ensures { result ≡ admits admitted version }
 {
-    if version == 1 {
-        return admitted.classic;
+    match version {
+        1 => admitted.classic,
+        2 => admitted.offset64,
+        _ => false,
     }
-    if version == 2 {
-        return admitted.offset64;
-    }
-    false
 }
 
-// The version byte at `at`.
-pub fn parse_version(s: &[u8], size: u64, at: usize, admitted: Admitted) -> Word
-    requires { at ≤ length s.now }
-    ensures { of_word result ≡ version_byte admitted s.now size at }
+// The version byte.
+pub fn parse_version(place: Place, admitted: Admitted) -> Step<u8>
+    ensures { Steps place.entry (version_byte admitted) result }
 {
-    let n = s.len();
-    if n <= at {
-        return Word::Stop(unfinished(n, size), n);
+    let next = place.skip(1)?;
+    let version = place.bytes[place.at];
+    if admits(admitted, version) {
+        Ok((version, next))
+    } else {
+        Err(place.refuse(Refusal::Version))
     }
-    let v = s[at];
-    if admits(admitted, v) {
-        return Word::Got(v as u64, at + 1);
-    }
-    Word::Stop(4, at)
 }

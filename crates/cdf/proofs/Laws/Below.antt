@@ -4,7 +4,10 @@ use native.Mathlib.Omega.{arith}
 use native.Mathlib.Nat.{not-suc-le-zero, le_of_suc-le-suc, eq-or-lt_of_le}
 use mathlib.Core.Logic.{◌⊎◌, inl, inr, ⊎_elim}
 use mathlib.Core.Path.{◌≡◌, refl, sym, ap, subst, ◌∙◌}
-use mathlib.Core.Bool.{Bool, true, false, ◌&&◌, ◌||◌, and-false, or-true}
+use mathlib.Core.Bool.{Bool, true, false, ◌&&◌, ◌||◌, and-false, and-true, and_assoc, or-true}
+use mathlib.Core.List.{List, [], ◌∷◌}
+use lib.ListN.{length, get_or}
+use Rattle.std.specs.List.{list_all}
 use borrow.Author.Tests.{le-leb, lt-leb, leb-true, leb-false}
 use lib.Dec.{leb}
 use Rattle.cdf.specs.Below.{between, all_below, any_below, first_where}
@@ -35,6 +38,24 @@ module _ (low high n : ℕ) where
 
   pub outside : (n < low) ⊎ (high < n) → between low high n ≡ false
   outside = ⊎_elim under over
+
+-- tests that agree below n
+pub same-below : (n : ℕ) (p q : ℕ → Bool) → ((i : ℕ) → i < n → p i ≡ q i) → all_below n p ≡ all_below n q
+unfolding all_below
+same-below zero p q h = refl
+same-below (suc n) p q h = rw (same-below n p q (λ i l. h i (omega arith)), h n (omega arith))
+
+-- the first number apart
+pub first-apart : (n : ℕ) (p : ℕ → Bool) → all_below (suc n) p ≡ (p 0 && all_below n (λ i. p (suc i)))
+unfolding all_below
+first-apart zero p = sym (and-true (p 0))
+first-apart (suc n) p = ap (λ (b : Bool). b && p (suc n)) (first-apart n p) ∙ and_assoc (p 0) (all_below n (λ i. p (suc i))) (p (suc n))
+
+-- a test of each element of a list is one of each number below its length
+pub each-below : {A : Type 0} (p : A → Bool) (d : A) (xs : List A) → list_all p xs ≡ all_below (length xs) (λ i. p (get_or xs i d))
+unfolding all_below
+each-below p d [] = refl
+each-below p d (x ∷ xs) = ap (λ (b : Bool). p x && b) (each-below p d xs) ∙ sym (first-apart (length xs) (λ i. p (get_or (x ∷ xs) i d)))
 
 module _ (p : ℕ → Bool) where
   pub all_hold : (n : ℕ) → ((k : ℕ) → k < n → p k ≡ true) → all_below n p ≡ true

@@ -1,19 +1,19 @@
 -- Laws of how a list starts.
-use Prim.Native.Nat.{ℕ, zero, suc, ◌+◌, ◌-◌, ◌≤◌, ◌<◌}
+use Prim.Native.Nat.{ℕ, zero, suc, ◌+◌, ◌≤◌, ◌<◌}
 use mathlib.Core.Path.{◌≡◌, refl, sym, ◌∙◌}
-use mathlib.Core.Bool.{Bool, true, false, cond}
+use mathlib.Core.Bool.{Bool, true, false}
 use mathlib.Core.Logic.{inl, inr, ⊎_elim}
 use mathlib.Core.List.{List, [], ◌∷◌}
 use native.Mathlib.Omega.{arith}
 use native.Mathlib.Nat.{not-suc-le-zero, le_of_suc-le-suc}
 use lib.ListN.{length, get_or, replicate, length-replicate, get_or-replicate}
-use lib.Dec.{ltb, leb}
-use borrow.Author.Tests.{lt-leb, le-leb, leb-true}
+use lib.Dec.{leb}
+use borrow.Author.Tests.{le-leb, leb-true}
 use Rattle.cdf.specs.Step.{Step, got, stop, test, unfinished}
 use Rattle.cdf.specs.Word.{nelems}
 use Rattle.cdf.specs.Magic.{begins}
 use Rattle.cdf.specs.ListStart.{list_start}
-use Rattle.cdf.proofs.Laws.Step.{Ends, ended, stopped, test-ends, unfinished-ends, by-true, by-false, is-unfinished, test-came}
+use Rattle.cdf.proofs.Laws.Step.{Ends, ended, stopped, test-ends, unfinished-ends, by-true, by-false, test-came}
 use Rattle.cdf.proofs.Laws.Below.{order}
 use Rattle.cdf.proofs.Laws.Word.{nelems-ends, nelems-within}
 use Rattle.cdf.proofs.Laws.Magic.{begins-all, begins-at}
@@ -49,19 +49,10 @@ module _ (absent k tag room : ℕ) (s : List ℕ) (size at : ℕ) where
   unfolding list_start
   start-absent b h = by-true _ b (by-true _ (le-leb _ _ h) refl)
 
-  pub start-short : {r : ℕ} → begins (replicate absent 0) s at ≡ true → at ≤ length s → length s - at < absent → r ≡ cond (ltb (length s) size) 1 2
-      → stop r (length s) ≡ list_start absent k tag room s size at
-  unfolding list_start
-  start-short b l h e = by-true _ b (by-false _ (lt-leb (at + absent) (length s) (omega arith)) (is-unfinished s size e))
-
   pub start-tag : {x : Step ℕ} → begins (replicate absent 0) s at ≡ false → begins (tag_bytes tag) s at ≡ true → x ≡ nelems room k s size (at + 4)
       → x ≡ list_start absent k tag room s size at
   unfolding list_start
   start-tag n b e = by-false _ n (by-true _ b e)
-
-  pub start-bad : begins (replicate absent 0) s at ≡ false → begins (tag_bytes tag) s at ≡ false → stop 9 at ≡ list_start absent k tag room s size at
-  unfolding list_start
-  start-bad n m = by-false _ n (by-false _ m refl)
 
   -- the items of a list that is taken fit the room for them
   pub start-within : {n e : ℕ} → got n e ≡ list_start absent k tag room s size at → n ≤ room

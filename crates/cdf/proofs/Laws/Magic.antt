@@ -1,22 +1,35 @@
 -- Laws of the first four bytes, and of bytes at hand that begin a pattern.
-use Prim.Native.Nat.{ℕ, ◌+◌, ◌≤◌, ◌<◌}
+use Prim.Native.Nat.{ℕ, suc, ◌+◌, ◌-◌, ◌≤◌, ◌<◌}
 use mathlib.Core.Path.{◌≡◌, refl, ap, sym, ◌∙◌}
-use mathlib.Core.Bool.{Bool, true, false, cond, ◌||◌, or-true}
+use mathlib.Core.Bool.{Bool, true, false, ◌&&◌, ◌||◌, or-true}
 use mathlib.Core.Logic.{◌⊎◌, ⊎_elim}
-use mathlib.Core.List.{List}
+use mathlib.Core.List.{List, [], ◌∷◌}
 use native.Mathlib.Omega.{arith}
-use lib.ListN.{length, get_or}
-use lib.Dec.{ltb, leb, eqb}
+use lib.ListN.{length, get_or, take, drop, length-drop}
+use Rattle.std.proofs.lemmas.List.{take_rest, get_or-drop}
+use Rattle.std.specs.List.{list_all, zip}
+use Rattle.std.specs.Bool.{◌==◌}
+use lib.Dec.{leb, eqb, leb-suc-suc, leb-suc-zero}
 use borrow.Author.Tests.{lt-leb, le-leb, leb-true, eq-eqb, ne_eqb, eqb-true}
+use Rattle.cdf.specs.Below.{all_below}
 use Rattle.cdf.specs.Step.{got, stop, test, unfinished}
 use Rattle.cdf.specs.Magic.{begins, cdf, magic, admits, version_byte}
 use Rattle.cdf.specs.declared.version.Admitted.{Admitted}
-use Rattle.cdf.proofs.Laws.Step.{Ends, ended, stopped, test-ends, unfinished-ends, by-true, by-false, is-unfinished}
-use Rattle.cdf.proofs.Laws.Below.{all_hold, one-fails, holds_at}
+use Rattle.cdf.proofs.Laws.Step.{Ends, ended, stopped, test-ends, unfinished-ends, by-true, by-false}
+use Rattle.cdf.proofs.Laws.Below.{order, all_hold, one-fails, holds_at, same-below, first-apart}
 
 either : (a b : Bool) → a ≡ false → (a || b) ≡ true → b ≡ true
 either true b e h = let z : ◌≡◌ {A = Bool} true false = e in cc
 either false b e h = h
+
+-- a text that agrees with a pattern as far as both go, by the pattern's numbers
+agree-below : (xs t : List ℕ) → list_all (λ x. x.0 == x.1) (zip xs t) ≡ all_below (length t) (λ i. leb (length xs) i || eqb (get_or xs i 0) (get_or t i 0))
+agree-below [] t = sym (all_hold _ (length t) (λ i _. rw (le-leb 0 i (omega arith))))
+agree-below (x ∷ xs) [] = sym (all_hold _ 0 (λ i l. absurd (omega arith)))
+agree-below (x ∷ xs) (y ∷ t) =
+    ap (λ (b : Bool). eqb x y && b) (agree-below xs t ∙ same-below (length t) _ _ (λ i _. rw (leb-suc-suc (length xs) i)))
+    ∙ ap (λ (b : Bool). (b || eqb x y) && all_below (length t) (λ i. leb (length (x ∷ xs)) (suc i) || eqb (get_or xs i 0) (get_or t i 0))) (sym (leb-suc-zero (length xs)))
+    ∙ sym (first-apart (length t) (λ i. leb (length (x ∷ xs)) i || eqb (get_or (x ∷ xs) i 0) (get_or (y ∷ t) i 0)))
 
 module _ (t s : List ℕ) (at : ℕ) where
   fits : ℕ → Bool
@@ -33,6 +46,16 @@ module _ (t s : List ℕ) (at : ℕ) where
   departs : (i : ℕ) → at + i < length s → (get_or s (at + i) 0 ≡ get_or t i 0 → ⊥) → fits i ≡ false
   unfolding fits
   departs i h e = rw (lt-leb (length s) (at + i) h, ne_eqb (get_or s (at + i) 0) (get_or t i 0) e)
+
+  -- the bytes from the place on, as a part of s
+  pub begins_part : at ≤ length s → list_all (λ x. x.0 == x.1) (zip (take (length s - at) (drop at s)) t) ≡ begins t s at
+  unfolding begins
+  begins_part h =
+      ap (λ (xs : List ℕ). list_all (λ x. x.0 == x.1) (zip xs t)) (take_rest s at) ∙ agree-below (drop at s) t
+      ∙ same-below (length t) _ _ (λ i _. rw (length-drop at s, get_or-drop at s i 0) (ap (λ (b : Bool). b || eqb (get_or s (at + i) 0) (get_or t i 0)) (moved i)))
+    where
+      moved : (i : ℕ) → leb (length s - at) i ≡ leb (length s) (at + i)
+      moved i = ⊎_elim (λ (p : length s ≤ at + i). rw (le-leb (length s - at) i (omega arith), le-leb (length s) (at + i) p)) (λ (p : at + i < length s). rw (lt-leb (length s - at) i (omega arith), lt-leb (length s) (at + i) p)) (order (length s) (at + i))
 
   -- no byte at hand departs
   pub begins-all : ((i : ℕ) → i < length t → (length s ≤ at + i) ⊎ (get_or s (at + i) 0 ≡ get_or t i 0)) → true ≡ begins t s at
@@ -53,44 +76,16 @@ module _ (s : List ℕ) (size : ℕ) where
   unfolding magic
   magic-got b h = by-true _ b (by-true _ (le-leb 3 (length s) h) refl)
 
-  pub magic-short : {r : ℕ} → begins cdf s 0 ≡ true → length s < 3 → r ≡ cond (ltb (length s) size) 1 2 → stop r (length s) ≡ magic s size
-  unfolding magic
-  magic-short b h e = by-true _ b (by-false _ (lt-leb 3 (length s) h) (is-unfinished s size e))
-
-  pub magic-bad : begins cdf s 0 ≡ false → stop 3 0 ≡ magic s size
-  unfolding magic
-  magic-bad b = by-false _ b refl
-
   pub magic-ends : Ends (length s) (magic s size)
   unfolding magic
   magic-ends = test-ends _ _ _ (λ _. test-ends _ _ _ (λ h. ended _ _ (leb-true _ _ h)) (λ _. unfinished-ends s size)) (λ _. stopped _ _)
 
 module _ (a : Admitted) where
-  pub admits-1 : (v : ℕ) → v ≡ 1 → a.classic ≡ admits a v
-  unfolding admits
-  admits-1 v e = rw e (first a.classic)
-    where
-      first : (b : Bool) → b ≡ (b || false)
-      first true = refl
-      first false = refl
-
-  pub admits-2 : (v : ℕ) → v ≡ 2 → a.offset64 ≡ admits a v
-  unfolding admits
-  admits-2 v e = rw e refl
-
-  pub admits-none : (v : ℕ) → (v ≡ 1 → ⊥) → (v ≡ 2 → ⊥) → false ≡ admits a v
-  unfolding admits
-  admits-none v n m = rw (ne_eqb v 1 n, ne_eqb v 2 m)
-
   module _ (s : List ℕ) (size at : ℕ) where
     pub version_byte-got : {v : ℕ} → at < length s → v ≡ get_or s at 0 → true ≡ admits a v → got v (at + 1) ≡ version_byte a s size at
     unfolding version_byte
     version_byte-got h e b =
         by-true _ (le-leb (at + 1) (length s) (omega arith)) (by-true _ (ap (admits a) (sym e) ∙ sym b) (ap (λ (v : ℕ). got v (at + 1)) e))
-
-    pub version_byte-short : {r : ℕ} → at ≡ length s → r ≡ cond (ltb (length s) size) 1 2 → stop r (length s) ≡ version_byte a s size at
-    unfolding version_byte
-    version_byte-short h e = by-false _ (lt-leb (at + 1) (length s) (omega arith)) (is-unfinished s size e)
 
     pub version_byte-bad : {v : ℕ} → at < length s → v ≡ get_or s at 0 → false ≡ admits a v → stop 4 at ≡ version_byte a s size at
     unfolding version_byte

@@ -1,23 +1,19 @@
 -- Laws of words: what each is, by cases, and that it ends inside the bytes.
 use Prim.Native.Nat.{ℕ, ◌+◌, ◌-◌, ◌*◌, ◌^◌, ◌≤◌, ◌<◌}
 use mathlib.Core.Path.{◌≡◌, refl, ap}
-use mathlib.Core.Bool.{Bool, true, false, cond, or-true}
+use mathlib.Core.Bool.{or-true}
 use mathlib.Core.List.{List}
 use native.Mathlib.Omega.{arith}
 use lib.ListN.{length}
-use lib.Dec.{ltb, leb}
-use borrow.Author.Tests.{lt-ltb, le-ltb, lt-leb, le-leb, leb-true, ltb-true, eq-eqb, ne_eqb}
-use Rattle.cdf.specs.Step.{Step, got, stop, bind, test, unfinished}
+use lib.Dec.{ltb}
+use borrow.Author.Tests.{lt-ltb, le-leb, leb-true, ltb-true, eq-eqb}
+use Rattle.cdf.specs.Step.{Step, got, stop, bind}
 use Rattle.bigendian.specs.Number.{be, half, extended}
 use Rattle.cdf.specs.Word.{word, non_negative, open_count, nelems, signed}
 use Rattle.bigendian.proofs.Laws.Number.{extended-8}
-use Rattle.cdf.proofs.Laws.Step.{Ends, ended, stopped, bind-ends, test-ends, unfinished-ends, by-got, by-stop, by-true, by-false, is-unfinished, bind-came, test-came, got_same}
+use Rattle.cdf.proofs.Laws.Step.{Ends, ended, stopped, bind-ends, test-ends, unfinished-ends, by-got, by-true, bind-came, test-came, got_same}
 
 module _ (k : ℕ) (s : List ℕ) (size at : ℕ) where
-  pub word-short : {r : ℕ} → at ≤ length s → length s - at < k → r ≡ cond (ltb (length s) size) 1 2 → stop r (length s) ≡ word k s size at
-  unfolding word
-  word-short b h e = by-false _ (lt-leb (at + k) (length s) (omega arith)) (is-unfinished s size e)
-
   pub word_got : {v : ℕ} → at + k ≤ length s → v ≡ be k s at → got v (at + k) ≡ word k s size at
   unfolding word
   word_got h e = by-true _ (le-leb (at + k) (length s) h) (ap (λ (v : ℕ). got v (at + k)) e)
@@ -26,26 +22,9 @@ module _ (k : ℕ) (s : List ℕ) (size at : ℕ) where
   unfolding word
   word-ends = test-ends _ _ _ (λ h. ended _ _ (leb-true _ _ h)) (λ _. unfinished-ends s size)
 
-  -- a word that is taken spells its bytes' number
-  pub word-is : {v n : ℕ} → got v n ≡ word k s size at → v ≡ be k s at
-  unfolding word test unfinished
-  word-is {v} {n} e = taken (leb (at + k) (length s)) e
-    where
-      taken : (t : Bool) → got v n ≡ test t (got (be k s at) (at + k)) (unfinished s size) → v ≡ be k s at
-      taken true f = cc
-      taken false f = cc
-
-  pub non_negative-stop : {r p : ℕ} → stop r p ≡ word k s size at → stop r p ≡ non_negative k s size at
-  unfolding non_negative
-  non_negative-stop e = by-stop _ e
-
   pub non_negative-got : {v n : ℕ} → got v n ≡ word k s size at → v < half k → got v n ≡ non_negative k s size at
   unfolding non_negative
   non_negative-got e h = by-got _ _ e (by-true _ (lt-ltb _ _ h) refl)
-
-  pub non_negative-bad : {v n : ℕ} → got v n ≡ word k s size at → half k ≤ v → stop 5 at ≡ non_negative k s size at
-  unfolding non_negative
-  non_negative-bad e h = by-got _ _ e (by-false _ (le-ltb _ _ h) refl)
 
   pub non_negative-below : {v n : ℕ} → got v n ≡ non_negative k s size at → v < half k
   unfolding non_negative
@@ -55,10 +34,6 @@ module _ (k : ℕ) (s : List ℕ) (size at : ℕ) where
   unfolding non_negative
   non_negative-ends = bind-ends _ _ word-ends (λ v n h. test-ends _ _ _ (λ _. ended _ _ h) (λ _. stopped _ _))
 
-  pub open_count-stop : {r p : ℕ} → stop r p ≡ word k s size at → stop r p ≡ open_count k s size at
-  unfolding open_count
-  open_count-stop e = by-stop _ e
-
   pub open_count-got : {v n : ℕ} → got v n ≡ word k s size at → v < half k → got v n ≡ open_count k s size at
   unfolding open_count
   open_count-got {v} e h = by-got _ _ e (by-true _ (rw (lt-ltb v (half k) h)) refl)
@@ -67,17 +42,9 @@ module _ (k : ℕ) (s : List ℕ) (size at : ℕ) where
   unfolding open_count
   open_count-open {v} e h = by-got _ _ e (by-true _ (rw (eq-eqb v (2 ^ (8 * k) - 1) h) (or-true (ltb v (half k)))) refl)
 
-  pub open_count-bad : {v n : ℕ} → got v n ≡ word k s size at → half k ≤ v → (v ≡ 2 ^ (8 * k) - 1 → ⊥) → stop 5 at ≡ open_count k s size at
-  unfolding open_count
-  open_count-bad {v} e h m = by-got _ _ e (by-false _ (rw (le-ltb v (half k) h, ne_eqb v (2 ^ (8 * k) - 1) m)) refl)
-
   pub open_count-ends : Ends (length s) (open_count k s size at)
   unfolding open_count
   open_count-ends = bind-ends _ _ word-ends (λ v n h. test-ends _ _ _ (λ _. ended _ _ h) (λ _. stopped _ _))
-
-  pub signed-stop : {r p : ℕ} → stop r p ≡ word k s size at → stop r p ≡ signed k s size at
-  unfolding signed
-  signed-stop e = by-stop _ e
 
   pub signed-got : {v x n : ℕ} → got v n ≡ word k s size at → x ≡ extended k v → got x n ≡ signed k s size at
   unfolding signed
@@ -88,17 +55,9 @@ module _ (k : ℕ) (s : List ℕ) (size at : ℕ) where
   signed-ends = bind-ends _ _ word-ends (λ v n h. ended _ _ h)
 
   module _ (capacity : ℕ) where
-    pub nelems-stop : {r p : ℕ} → stop r p ≡ non_negative k s size at → stop r p ≡ nelems capacity k s size at
-    unfolding nelems
-    nelems-stop e = by-stop _ e
-
     pub nelems-got : {v n : ℕ} → got v n ≡ non_negative k s size at → v ≤ capacity → got v n ≡ nelems capacity k s size at
     unfolding nelems
     nelems-got e h = by-got _ _ e (by-true _ (le-leb _ _ h) refl)
-
-    pub nelems-bad : {v n : ℕ} → got v n ≡ non_negative k s size at → capacity < v → stop 10 at ≡ nelems capacity k s size at
-    unfolding nelems
-    nelems-bad e h = by-got _ _ e (by-false _ (lt-leb _ _ h) refl)
 
     pub nelems-within : {v n : ℕ} → got v n ≡ nelems capacity k s size at → v ≤ capacity
     unfolding nelems

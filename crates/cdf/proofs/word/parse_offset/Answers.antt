@@ -1,22 +1,14 @@
-use native.Mathlib.Omega.{arith}
-use Rattle.cdf.proofs.Laws.Word.{signed-stop, signed-got, word-is, signed-8}
-use Rattle.bigendian.proofs.Laws.Number.{extended-low, extended-high, be-fits}
+use Rattle.cdf.proofs.Laws.Word.{signed-8, signed-got}
+use Rattle.bigendian.proofs.Laws.Number.{extended-low, extended-high}
 use borrow.Author.Tests.{eq-eqb, ne_eqb}
-use Rattle.cdf.specs.Inner.Answers.{of_word}
-use mathlib.Core.Path.{sym, ap, ◌∙◌}
+use mathlib.Core.Path.{◌∙◌}
 use Rattle.cdf.proofs.word.parse_offset.Goals as goal
 
 pub returns-then-version-ne1 : goal.returns-then-version-ne1
-returns-then-version-ne1 c = rw (ne_eqb _ 1 c.if-version-ne1.true) (c.eight_bytes.ensures ∙ signed-8 _ _ _)
-
-pub overflow_add-result : goal.overflow_add-result
-overflow_add-result c = let a = c.args in let e = ap of_word (sym c.in-Got.is) ∙ c.four_bytes.ensures in omega (arith, word-is 4 _ _ _ e, be-fits a.s.now (λ i. (c.type_inv.s i).fits) 4 a.at)
-
-pub returns-in-Stop : goal.returns-in-Stop
-returns-in-Stop c = rw (eq-eqb _ 1 c.if-version-ne1.false) (signed-stop _ _ _ _ (ap of_word (sym c.in-Stop.is) ∙ c.four_bytes.ensures))
+returns-then-version-ne1 c = let e = c.eight_bytes.ensures in rw (ne_eqb c.args.version 1 c.if-version-ne1.true) (e.0 ∙ signed-8 _ _ _, e.1)
 
 pub returns-then-v-lt-FIRST_NEGATIVE : goal.returns-then-v-lt-FIRST_NEGATIVE
-returns-then-v-lt-FIRST_NEGATIVE c = rw (eq-eqb _ 1 c.if-version-ne1.false) (signed-got _ _ _ _ (ap of_word (sym c.in-Got.is) ∙ c.four_bytes.ensures) (extended-low 4 _ c.if-v-lt-FIRST_NEGATIVE.true))
+returns-then-v-lt-FIRST_NEGATIVE c = let e = c.in_ok-v.ensures in rw (eq-eqb c.args.version 1 c.if-version-ne1.false) (signed-got _ _ _ _ e.0 (extended-low 4 _ c.if-v-lt-FIRST_NEGATIVE.true), e.1)
 
 pub returns-else-v-lt-FIRST_NEGATIVE : goal.returns-else-v-lt-FIRST_NEGATIVE
-returns-else-v-lt-FIRST_NEGATIVE c = rw (eq-eqb _ 1 c.if-version-ne1.false) (signed-got _ _ _ _ (ap of_word (sym c.in-Got.is) ∙ c.four_bytes.ensures) (extended-high 4 _ c.if-v-lt-FIRST_NEGATIVE.false))
+returns-else-v-lt-FIRST_NEGATIVE c = let e = c.in_ok-v.ensures in rw (eq-eqb c.args.version 1 c.if-version-ne1.false) (signed-got _ _ _ _ e.0 (extended-high 4 _ c.if-v-lt-FIRST_NEGATIVE.false), e.1)
