@@ -1,9 +1,7 @@
 -- Well-formed UTF-8 (01, Header grammar: "UTF-8 as in Unicode's table of well-formed sequences"; the Unicode Standard, table 3-7).
-use Rattle.std.specs.Prelude.{ℕ, ◌-◌, Bool, false, cond, List, [], ◌∷◌, eqb}
+use Rattle.std.specs.Prelude.{ℕ, ◌-◌, Bool, false, cond, List, [], ◌∷◌, eqb, Option, Some, None}
 use Rattle.cdf.specs.Below.{between}
 use Rattle.items.specs.declared.utf8.Due.{Due}
-use Rattle.items.specs.declared.utf8.Scanned.{Scanned}
-use Rattle.items.specs.declared.utf8.Scanned.TheVariants.{Good, Bad}
 
 -- a row of table 3-7: the first byte from `from` to `to`, then `more` bytes, the second from `low` to `high`, the third and fourth from 80 to BF
 pub record Row : Type 0 where
@@ -28,23 +26,23 @@ sequences =
     ∷ []
 
 -- the first byte of a sequence: what is due after it, by the first row of a table that has it
-unfoldable pub opening : List Row → ℕ → Scanned
-opening [] b = Bad
-opening (r ∷ rs) b = cond (between r.from r.to b) (Good (record { more = r.more; low = r.low; high = r.high })) (opening rs b)
+unfoldable pub opening : List Row → ℕ → Option Due
+opening [] b = None
+opening (r ∷ rs) b = cond (between r.from r.to b) (Some (record { more = r.more; low = r.low; high = r.high })) (opening rs b)
 
 -- one byte more: the first of a sequence where none is due, else the next one due
-unfoldable pub after : Due → ℕ → Scanned
+unfoldable pub after : Due → ℕ → Option Due
 after d b =
     cond (eqb d.more 0) (opening sequences b)
-    (cond (between d.low d.high b) (Good (record { more = d.more - 1; low = 0x80; high = 0xBF })) Bad)
+    (cond (between d.low d.high b) (Some (record { more = d.more - 1; low = 0x80; high = 0xBF })) None)
 
 -- the bytes of a text, one after the other: every byte fits, and none is due at the end
-unfoldable pub scan : List ℕ → Scanned → Bool
-scan [] Bad = false
-scan [] (Good d) = eqb d.more 0
-scan (b ∷ bs) Bad = false
-scan (b ∷ bs) (Good d) = scan bs (after d b)
+unfoldable pub scan : List ℕ → Option Due → Bool
+scan [] None = false
+scan [] (Some d) = eqb d.more 0
+scan (b ∷ bs) None = false
+scan (b ∷ bs) (Some d) = scan bs (after d b)
 
 -- 01: "UTF-8 as in Unicode's table of well-formed sequences". At a text's start no byte is due
 unfoldable pub utf8 : List ℕ → Bool
-utf8 bs = scan bs (Good (record { more = 0; low = 0x80; high = 0xBF }))
+utf8 bs = scan bs (Some (record { more = 0; low = 0x80; high = 0xBF }))

@@ -1,9 +1,12 @@
 // Data types: their codes and the sizes of their elements.
-ghost use Rattle.std.specs.Prelude.{◌≡◌, ◌≤◌, length};
+ghost use Rattle.std.specs.Prelude.{◌≡◌, ◌≤◌};
+ghost use Rattle.cdf.specs.Inner.Answers.{Reads};
 ghost use Rattle.items.specs.Types.{size_of, data_type};
-ghost use Rattle.items.specs.Inner.DataTypes.{of_typed, code_of, Decodes};
+ghost use Rattle.items.specs.Inner.DataTypes.{code_of, Decodes};
 
-use cdf::step::Word;
+use cdf::place::Place;
+use cdf::refusal::Refusal;
+use cdf::step::Step;
 use cdf::word::parse_non_neg;
 
 #[derive(Clone, Copy, Debug, PartialEq, Eq, Hash)]
@@ -25,13 +28,6 @@ pub enum DataType {
 // A code that no type has.
 #[derive(Clone, Copy, Debug, PartialEq, Eq, Hash)]
 pub struct UnknownCode(pub u64);
-
-// A step that reads a type.
-#[derive(Clone, Copy)]
-pub enum Typed {
-    Got(DataType, usize),
-    Stop(u8, usize),
-}
 
 impl DataType {
     pub const CODE_I8: u8 = 1;
@@ -121,21 +117,14 @@ impl TryFrom<u64> for DataType {
     }
 }
 
-// The type word at `at`.
-pub fn parse_data_type(s: &[u8], size: u64, at: usize) -> Typed
-    requires { at ≤ length s.now }
-    ensures { of_typed result ≡ data_type 6 s.now size at }
+// The type that a word is the code of.
+#[tactic(auto, unfolding(cdf::specs::Step::bind, cdf::specs::Step::test, crate::specs::Types::data_type))]
+pub fn parse_data_type(place: Place) -> Step<DataType>
+    ensures { Reads code_of place.entry (data_type 6) result }
 {
-    match parse_non_neg(s, size, at) {
-        Word::Stop(k, p) => Typed::Stop(k, p),
-        Word::Got(code, next) => {
-            if code < 1 {
-                return Typed::Stop(8, at);
-            }
-            if 6 < code {
-                return Typed::Stop(8, at);
-            }
-            Typed::Got(DataType::of_code(code), next)
-        }
+    let (code, next) = parse_non_neg(place)?;
+    match DataType::try_from(code as u64) {
+        Ok(kind) => Ok((kind, next)),
+        Err(_) => Err(place.refuse(Refusal::TypeCode)),
     }
 }

@@ -1,21 +1,20 @@
 // The bytes of an attribute's values.
-ghost use Rattle.std.specs.Prelude.{◌≡◌, ◌<◌, ◌≤◌, length};
-ghost use Rattle.cdf.specs.Inner.Answers.{of_next};
+#![tactic(auto, unfolding(cdf::specs::Step::test, cdf::specs::Step::unfinished, crate::specs::Values::values))]
+
+ghost use Rattle.std.specs.Prelude.{◌≤◌};
+ghost use Rattle.cdf.specs.Inner.Answers.{Passes};
 ghost use Rattle.items.specs.Values.{values};
 
 use cdf::padding::parse_zero_padding;
-use cdf::step::{Next, unfinished};
+use cdf::place::Place;
+use cdf::refusal::Stop;
 
 // The `count` values of `width` bytes each, and their padding.
-pub fn parse_typed_data_elements(s: &[u8], size: u64, at: usize, count: u64, width: u64) -> Next
-    requires { (at ≤ length s.now) × (count < 2147483648) × (width ≤ 8) }
-    ensures { of_next result ≡ values count width s.now size at }
+pub fn parse_typed_data_elements(place: Place, count: u32, width: u64) -> Result<Place, Stop>
+    requires { width ≤ 8 }
+    ensures { Passes place.entry (values count width) result }
 {
-    let n = s.len();
-    let total = count * width;
-    let left = (n - at) as u64;
-    if left < total {
-        return Next::Stop(unfinished(n, size), n);
-    }
-    parse_zero_padding(s, size, at + (total as usize), total)
+    let total = count as u64 * width;
+    let end = place.skip(total)?;
+    parse_zero_padding(end, total)
 }

@@ -1,19 +1,18 @@
 -- Laws of names.
-use Prim.Native.Nat.{ℕ, ◌+◌, ◌-◌, ◌≤◌, ◌<◌}
+use Prim.Native.Nat.{ℕ, ◌+◌, ◌≤◌}
 use mathlib.Core.Path.{◌≡◌, refl, sym, subst, ◌∙◌}
-use mathlib.Core.Bool.{true, false, cond}
+use mathlib.Core.Bool.{true}
 use mathlib.Core.List.{List}
 use native.Mathlib.Omega.{arith}
 use lib.ListN.{length}
-use lib.Dec.{ltb}
-use borrow.Author.Tests.{lt-leb, le-leb, leb-true}
-use Rattle.cdf.specs.Step.{got, stop, bind}
+use borrow.Author.Tests.{le-leb, leb-true}
+use Rattle.cdf.specs.Step.{got, bind}
 use Rattle.cdf.specs.Word.{nelems}
 use Rattle.cdf.specs.Padding.{zero_padding}
 use Rattle.items.specs.Utf8.{utf8}
 use Rattle.items.specs.Name.{longest_name, part, name}
 use Rattle.items.specs.Inner.NameBytes.{name_bytes}
-use Rattle.cdf.proofs.Laws.Step.{Ends, ended, stopped, bind-ends, test-ends, unfinished-ends, by-got, by-stop, by-true, by-false, is-unfinished, bind-came, got_same, bind-need, bind-hand, bind-got, bind-same, test-same}
+use Rattle.cdf.proofs.Laws.Step.{Ends, ended, stopped, bind-ends, test-ends, unfinished-ends, by-got, by-true, bind-came, got_same, bind-need, bind-hand, bind-got, bind-same, test-same}
 use Rattle.cdf.proofs.Laws.Word.{nelems-ends, nelems-within}
 use Rattle.cdf.proofs.Laws.Padding.{padding-ends}
 
@@ -21,14 +20,6 @@ module _ (n : ℕ) (s : List ℕ) (size at : ℕ) where
   pub name_bytes-got : at + n ≤ length s → utf8 (part s at n) ≡ true → got tt (at + n) ≡ name_bytes n s size at
   unfolding name_bytes
   name_bytes-got h u = by-true _ (le-leb _ _ h) (by-true _ u refl)
-
-  pub name_bytes-short : {r : ℕ} → at ≤ length s → length s - at < n → r ≡ cond (ltb (length s) size) 1 2 → stop r (length s) ≡ name_bytes n s size at
-  unfolding name_bytes
-  name_bytes-short b h e = by-false _ (lt-leb (at + n) (length s) (omega arith)) (is-unfinished s size e)
-
-  pub name_bytes-bad : at + n ≤ length s → utf8 (part s at n) ≡ false → stop 6 at ≡ name_bytes n s size at
-  unfolding name_bytes
-  name_bytes-bad h u = by-true _ (le-leb _ _ h) (by-false _ u refl)
 
   pub name_bytes-ends : Ends (length s) (name_bytes n s size at)
   unfolding name_bytes
@@ -40,20 +31,9 @@ module _ (k : ℕ) (s : List ℕ) (size at : ℕ) where
   unfolding name name_bytes
   name-parts = bind-same _ _ _ (λ n p _. bind-hand _ s size _ _ ∙ test-same _ _ (λ _. bind-need _ _ _ _ _ ∙ test-same _ _ (λ _. bind-got _ _ _)))
 
-  pub name-count-stops : {r p : ℕ} → stop r p ≡ nelems longest_name k s size at → stop r p ≡ name k s size at
-  unfolding name
-  name-count-stops e = by-stop _ e
-
-  module _ {n p : ℕ} (counted : got n p ≡ nelems longest_name k s size at) where
-    pub name-bytes-stop : {r q : ℕ} → stop r q ≡ name_bytes n s size p → stop r q ≡ name k s size at
-    name-bytes-stop e = by-got _ _ counted (by-stop _ e) ∙ name-parts
-
-    module _ {e : ℕ} (read : got tt e ≡ name_bytes n s size p) where
-      pub name-padding-stops : {r q : ℕ} → stop r q ≡ zero_padding n s size e → stop r q ≡ name k s size at
-      name-padding-stops f = by-got _ _ counted (by-got _ _ read (by-stop _ f)) ∙ name-parts
-
-      pub name-got : {q : ℕ} → got tt q ≡ zero_padding n s size e → got n q ≡ name k s size at
-      name-got f = by-got _ _ counted (by-got _ _ read (by-got _ _ f refl)) ∙ name-parts
+  module _ {n p e : ℕ} (counted : got n p ≡ nelems longest_name k s size at) (read : got tt e ≡ name_bytes n s size p) where
+    pub name-got : {q : ℕ} → got tt q ≡ zero_padding n s size e → got n q ≡ name k s size at
+    name-got f = by-got _ _ counted (by-got _ _ read (by-got _ _ f refl)) ∙ name-parts
 
   -- a name that is taken has no more bytes than its capacity
   pub name-within : {n e : ℕ} → got n e ≡ name k s size at → n ≤ longest_name

@@ -1,18 +1,17 @@
 -- Laws of data types.
 use Prim.Native.Nat.{ℕ, zero, suc, ◌≤◌, ◌<◌}
 use mathlib.Core.Path.{◌≡◌, refl, ap}
-use mathlib.Core.Bool.{and-false}
 use mathlib.Core.Logic.{⊎_elim}
 use mathlib.Core.List.{List}
 use native.Mathlib.Omega.{arith}
 use lib.ListN.{length, get_or-eq_default}
 use lib.Dec.{leb, lit≤}
-use borrow.Author.Tests.{lt-leb, le-leb, leb-true}
-use Rattle.cdf.specs.Step.{got, stop}
+use borrow.Author.Tests.{le-leb, leb-true}
+use Rattle.cdf.specs.Step.{got}
 use Rattle.cdf.specs.Below.{all_below}
 use Rattle.cdf.specs.Word.{non_negative}
 use Rattle.items.specs.Types.{sizes, size_of, data_type}
-use Rattle.cdf.proofs.Laws.Step.{Ends, ended, stopped, bind-ends, test-ends, by-got, by-stop, by-true, by-false, bind-came, test-came, got_same}
+use Rattle.cdf.proofs.Laws.Step.{Ends, ended, stopped, bind-ends, test-ends, by-got, by-true, bind-came, test-came, got_same}
 use Rattle.cdf.proofs.Laws.Below.{order, both, holds_at}
 use Rattle.cdf.proofs.Laws.Word.{non_negative-ends}
 
@@ -40,22 +39,10 @@ pub size-pos : (code : ℕ) → 1 ≤ code → code ≤ 6 → 0 < size_of code
 size-pos = by_code (λ c. 0 < size_of c) (lit≤ tt) (lit≤ tt) (lit≤ tt) (lit≤ tt) (lit≤ tt) (lit≤ tt)
 
 module _ (codes : ℕ) (s : List ℕ) (size at : ℕ) where
-  pub type-stop : {r p : ℕ} → stop r p ≡ non_negative 4 s size at → stop r p ≡ data_type codes s size at
-  unfolding data_type
-  type-stop e = by-stop _ e
-
   module _ {v n : ℕ} (read : got v n ≡ non_negative 4 s size at) where
     pub type-got : {c : ℕ} → 1 ≤ v → v ≤ codes → c ≡ v → got c n ≡ data_type codes s size at
     unfolding data_type
     type-got h l e = by-got _ _ read (by-true _ (rw (le-leb 1 v h, le-leb v codes l)) (ap (λ (c : ℕ). got c n) e))
-
-    pub type-low : v < 1 → stop 8 at ≡ data_type codes s size at
-    unfolding data_type
-    type-low h = by-got _ _ read (by-false _ (rw (lt-leb 1 v h)) refl)
-
-    pub type-high : codes < v → stop 8 at ≡ data_type codes s size at
-    unfolding data_type
-    type-high h = by-got _ _ read (by-false _ (rw (lt-leb v codes h) (and-false (leb 1 v))) refl)
 
   -- a code that is taken is one of a type
   pub type-within : {c n : ℕ} → got c n ≡ data_type codes s size at → (1 ≤ c) × (c ≤ codes)

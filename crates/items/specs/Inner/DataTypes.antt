@@ -1,12 +1,9 @@
 -- The enum of the data types, by the codes of Types.antt.
 use Rattle.std.specs.Prelude.{ℕ, ◌≡◌, false, Result, MatchResult}
 use Rattle.cdf.specs.Below.{between}
-use Rattle.cdf.specs.Step.{Step, got, stop}
 use Rattle.items.specs.declared.types.DataType.{DataType}
 use Rattle.items.specs.declared.types.DataType.TheVariants.{I8, U8, I16, I32, F32, F64}
 use Rattle.items.specs.declared.types.UnknownCode.{UnknownCode}
-use Rattle.items.specs.declared.types.Typed.{Typed}
-use Rattle.items.specs.declared.types.Typed.TheVariants.{Got, Stop}
 
 -- the code of each type (BNF: NC_BYTE = 1 to NC_DOUBLE = 6)
 abbrev pub code_of : DataType → ℕ
@@ -16,11 +13,6 @@ code_of I16 = 3
 code_of I32 = 4
 code_of F32 = 5
 code_of F64 = 6
-
--- what the answer of a function that reads a type means: a step that gives its code
-abbrev pub of_typed : Typed → Step ℕ
-of_typed (Got t n) = got (code_of t) n
-of_typed (Stop k p) = stop k p
 
 -- the type that has the code, or that no type has it
 abbrev pub Decodes : ℕ → Result DataType UnknownCode → Type 0

@@ -1,16 +1,15 @@
 use Rattle.items.proofs.Laws.Utf8.{text-starts, text-more, text-bad, text-ends}
-use native.Mathlib.Omega.{arith}
-use mathlib.Core.Path.{sym, ◌∙◌}
+use Rattle.std.proofs.Common.{sym, ◌∙◌}
 use Rattle.items.proofs.utf8.is_utf8.Goals as goal
 
-pub loop-i-init : goal.loop-i-init
-loop-i-init c = (omega arith, text-starts _)
+pub loop-b-init : goal.loop-b-init
+loop-b-init c = text-starts _
 
-pub returns-in-Bad : goal.returns-in-Bad
-returns-in-Bad c = sym (c.loop-i.invariant.1 ∙ text-bad _ _ _ c.loop-i-test.true (sym c.in-Bad.is ∙ c.after.ensures))
+pub returns-in-None : goal.returns-in-None
+returns-in-None c = sym (c.loop-b.invariant ∙ text-bad _ _ _ c.loop-b-test.true (sym c.in-None.is ∙ c.after.ensures))
 
-pub loop-i-preserved : goal.loop-i-preserved
-loop-i-preserved c = (omega arith, c.loop-i.invariant.1 ∙ text-more _ _ _ c.loop-i-test.true (sym c.in-Good.is ∙ c.after.ensures))
+pub loop-b-preserved : goal.loop-b-preserved
+loop-b-preserved c = c.loop-b.invariant ∙ text-more _ _ _ c.loop-b-test.true (sym c.in-Some.is ∙ c.after.ensures)
 
 pub returns : goal.returns
-returns c = sym (c.loop-i.invariant.1 ∙ text-ends _ _ _ c.loop-i-test.false)
+returns c = sym (c.loop-b.invariant ∙ text-ends _ _ _ c.loop-b-test.false)
