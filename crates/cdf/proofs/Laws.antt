@@ -1,5 +1,6 @@
 -- The laws of the definitions in specs/, under the same file names. Proofs of functions cite these and open no definition.
 pub mod Step
+pub mod Place
 pub mod Below
 pub mod Word
 pub mod Magic

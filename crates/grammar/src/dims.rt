@@ -1,80 +1,62 @@
 // The list of dimensions.
-ghost use Rattle.std.specs.Prelude.{◌≡◌, ◌≤◌, [], length};
+ghost use Rattle.std.specs.Prelude.{◌≡◌, ◌+◌, ◌≤◌};
 ghost use Rattle.cdf.specs.Step.{into};
 ghost use Rattle.cdf.specs.Form.{form};
+ghost use Rattle.cdf.specs.Inner.Answers.{Fills, Steps};
 ghost use Rattle.grammar.specs.Dims.{dim, dim_list};
-ghost use Rattle.grammar.specs.Inner.Answers.{of_dim, of_listed};
-ghost use Rattle.grammar.specs.Tables.{laid};
-ghost use Rattle.grammar.specs.Inner.Parts.{started};
-ghost use Rattle.grammar.specs.Tree.{tree};
+ghost use Rattle.grammar.specs.Inner.Parts.{dims, more_dims};
 
-use crate::tables::{Dim, Listed, MAX_DIMS, Tables};
+use crate::tables::{Dim, MAX_DIMS, Tables};
 use cdf::list::{DIMENSION_TAG, parse_list_start};
-use cdf::step::{Next, Word};
+use cdf::place::Place;
+use cdf::refusal::Stop;
+use cdf::step::Step;
 use cdf::word::parse_non_neg;
 use items::name::parse_name_string;
 
-#[derive(Clone, Copy)]
-pub enum DimStep {
-    Got(Dim, usize),
-    Stop(u8, usize),
+#[tactic(auto, unfolding(cdf::specs::Step::bind, crate::specs::Dims::dim))]
+fn parse_dim(place: Place, version: u8) -> Step<Dim>
+    ensures { Steps place.entry (dim (form version)) result }
+{
+    let (chars, length_at) = parse_name_string(place)?;
+    let (length, end) = parse_non_neg(length_at)?;
+    let dim = Dim {
+        name: place.at + 4,
+        chars: chars as u32,
+        length,
+    };
+    Ok((dim, end))
 }
 
-fn parse_dim(s: &[u8], size: u64, at: usize, version: u8) -> DimStep
-    requires { at ≤ length s.now }
-    ensures { of_dim result ≡ dim (form version) s.now size at }
+// The `count` dimensions from the place on, into the rows after those that are taken.
+fn parse_dims<'a>(
+    place: Place<'a>,
+    version: u8,
+    count: u32,
+    tables: &mut Tables,
+) -> Result<Place<'a>, Stop>
+    requires { tables.old.ndims + count ≤ 32 }
+    ensures { Fills place.entry tables.new (λ s size at. into (more_dims tables.old) (dims (form version) count s size at)) result }
 {
-    match parse_name_string(s, size, at) {
-        Word::Stop(k, p) => DimStep::Stop(k, p),
-        Word::Got(chars, next) => match parse_non_neg(s, size, next) {
-            Word::Stop(k, p) => DimStep::Stop(k, p),
-            Word::Got(length, end) => DimStep::Got(
-                Dim {
-                    name: at + 4,
-                    chars: chars as u32,
-                    length: length as u32,
-                },
-                end,
-            ),
-        },
+    let mut at = place;
+    for _ in 0..count {
+        let (dim, next) = parse_dim(at, version)?;
+        tables.push_dim(dim);
+        at = next;
     }
+    Ok(at)
 }
 
-// The list of dimensions at `at`, into tables that have none.
-pub(crate) fn parse_dims_list(s: &[u8], size: u64, at: usize, version: u8, tables: Tables) -> Listed
-    requires { (at ≤ length s.now) × (tables ≡ started version tables.word size) }
-    ensures { of_listed result ≡ into (λ ds. laid (tree version tables.word size ds [] [])) (dim_list (form version) s.now size at) }
+// The list of dimensions, into tables that have none.
+#[tactic(auto, unfolding(cdf::specs::Step::bind, cdf::specs::Step::into, crate::specs::Inner::Parts::dims, crate::specs::Dims::dim_list))]
+pub(crate) fn parse_dims_list<'a>(
+    place: Place<'a>,
+    version: u8,
+    tables: &mut Tables,
+) -> Result<Place<'a>, Stop>
+    requires { tables.old.ndims ≡ 0 }
+    ensures { Fills place.entry tables.new (λ s size at. into (more_dims tables.old) (dim_list (form version) s size at)) result }
 {
-    let mut t = tables;
-    match parse_list_start(s, size, at, DIMENSION_TAG, MAX_DIMS as u64) {
-        Word::Stop(k, p) => Listed {
-            next: Next::Stop(k, p),
-            tables: t,
-        },
-        Word::Got(n, next) => {
-            let mut end = next;
-            let mut i = 0;
-            while i < n {
-                match parse_dim(s, size, end, version) {
-                    DimStep::Stop(k, p) => {
-                        return Listed {
-                            next: Next::Stop(k, p),
-                            tables: t,
-                        };
-                    }
-                    DimStep::Got(d, after) => {
-                        let m = t.ndims;
-                        t.dims[m] = d;
-                        t.ndims = m + 1;
-                        end = after;
-                    }
-                }
-                i += 1;
-            }
-            Listed {
-                next: Next::At(end),
-                tables: t,
-            }
-        }
-    }
+    let (count, first) = parse_list_start(place, DIMENSION_TAG, MAX_DIMS as u64)?;
+    parse_dims(first, version, count, tables)
 }

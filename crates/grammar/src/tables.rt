@@ -1,9 +1,7 @@
 // The tables that a header is read into. A position is one in the caller's bytes; rows past a count are zero.
-ghost use Rattle.std.specs.Prelude.{◌≡◌};
+ghost use Rattle.std.specs.Prelude.{◌≡◌, ◌<◌, ◌∷◌, []};
 ghost use Rattle.grammar.specs.Tables.{blank};
-ghost use Rattle.grammar.specs.Inner.Parts.{started};
-
-use cdf::step::Next;
+ghost use Rattle.grammar.specs.Inner.Parts.{started, more_dims, more_attrs, more_rows};
 
 pub const MAX_DIMS: usize = 32;
 
@@ -20,7 +18,7 @@ pub const MAX_POSITION: u64 = 0x4000_0000_0000_0000;
 // are most of what a header costs, and rows with gaps are filled and copied field by field.
 
 // A dimension; length 0 marks the unlimited one.
-#[derive(Clone, Copy)]
+#[derive(Clone, Copy, Default)]
 pub struct Dim {
     pub name: usize,
     pub chars: u32,
@@ -28,7 +26,7 @@ pub struct Dim {
 }
 
 // An attribute; its values stand at `values`.
-#[derive(Clone, Copy)]
+#[derive(Clone, Copy, Default)]
 pub struct Attr {
     pub name: usize,
     pub chars: u16,
@@ -39,7 +37,7 @@ pub struct Attr {
 
 // A variable over the dimensions `ids`, the first `rank` of them; its attributes are the `attrs` rows
 // from `first` on; `begin` has the 64 bits of the signed number.
-#[derive(Clone, Copy)]
+#[derive(Clone, Copy, Default)]
 pub struct Var {
     pub name: usize,
     pub chars: u32,
@@ -69,56 +67,60 @@ pub struct Tables {
     pub vars: [Var; 64],
 }
 
-// The tables of a list that was read, and where it ends; or the refusal, whatever the tables then hold.
-#[derive(Clone, Copy)]
-pub struct Listed {
-    pub next: Next,
-    pub tables: Tables,
+impl Tables {
+    // A dimension more.
+    #[tactic(auto, unfolding(crate::specs::Inner::Parts::more_dims, crate::specs::Inner::Parts::placed))]
+    pub(crate) fn push_dim(&mut self, dim: Dim)
+        requires { self.old.ndims < 32 }
+        ensures { self.new ≡ more_dims self.old (dim ∷ []) }
+    {
+        self.dims[self.ndims] = dim;
+        self.ndims += 1;
+    }
+
+    // An attribute more.
+    #[tactic(auto, unfolding(crate::specs::Inner::Parts::more_attrs, crate::specs::Inner::Parts::placed))]
+    pub(crate) fn push_attr(&mut self, attr: Attr)
+        requires { self.old.nattrs < 128 }
+        ensures { self.new ≡ more_attrs self.old (attr ∷ []) }
+    {
+        self.attrs[self.nattrs] = attr;
+        self.nattrs += 1;
+    }
+
+    // A variable's row more.
+    #[tactic(auto, unfolding(crate::specs::Inner::Parts::more_rows, crate::specs::Inner::Parts::placed))]
+    pub(crate) fn push_var(&mut self, row: Var)
+        requires { self.old.nvars < 64 }
+        ensures { self.new ≡ more_rows self.old (row ∷ []) }
+    {
+        self.vars[self.nvars] = row;
+        self.nvars += 1;
+    }
 }
 
 // Tables with no rows yet.
+#[tactic(auto, unfolding(crate::specs::Tables::laid, crate::specs::Tables::padded, crate::specs::Tables::var_rows, crate::specs::Tree::attrs_of, crate::specs::Inner::Parts::started))]
 pub(crate) fn started(version: u8, word: u64, size: u64) -> Tables
     ensures { result ≡ started version word size }
 {
-    let dim = Dim {
-        name: 0,
-        chars: 0,
-        length: 0,
-    };
-    let attr = Attr {
-        name: 0,
-        chars: 0,
-        code: 0,
-        count: 0,
-        values: 0,
-    };
-    let var = Var {
-        name: 0,
-        chars: 0,
-        ids: [0; 8],
-        rank: 0,
-        first: 0,
-        attrs: 0,
-        code: 0,
-        vsize: 0,
-        begin: 0,
-    };
     Tables {
         version,
         word,
         count: 0,
         size,
         ndims: 0,
-        dims: [dim; 32],
+        dims: [Dim::default(); 32],
         nattrs: 0,
         globals: 0,
-        attrs: [attr; 128],
+        attrs: [Attr::default(); 128],
         nvars: 0,
-        vars: [var; 64],
+        vars: [Var::default(); 64],
     }
 }
 
 // Tables of version 1 with all else 0.
+#[tactic(auto, unfolding(crate::specs::Tables::blank, crate::specs::Inner::Parts::started))]
 pub fn blank() -> Tables
     ensures { result ≡ blank }
 {

@@ -1,261 +1,94 @@
 // The list of variables.
-ghost use Rattle.std.specs.Prelude.{◌≡◌, ℕ, ◌+◌, ◌≤◌, length, List, []};
-ghost use Rattle.cdf.specs.Step.{stop, into};
+ghost use Rattle.std.specs.Prelude.{◌≡◌, ◌+◌, ◌<◌, ◌≤◌, ◌∷◌, [], IfOk};
+ghost use Rattle.cdf.specs.Step.{into};
 ghost use Rattle.cdf.specs.Form.{form};
-ghost use Rattle.grammar.specs.Inner.Answers.{of_listed, of_rowed, of_started, of_tail};
-ghost use Rattle.grammar.specs.Tables.{laid, var_row};
-ghost use Rattle.grammar.specs.Inner.Parts.{VarHead, item, headed, var_head, var_start, begun, var_tail, vars, dimids};
-ghost use Rattle.grammar.specs.Tree.{tree};
-ghost use Rattle.grammar.specs.Vars.{var_list};
-ghost use Rattle.grammar.specs.declared.tables.Dim.{Dim};
-ghost use Rattle.grammar.specs.declared.tables.Attr.{Attr};
+ghost use Rattle.cdf.specs.Inner.Answers.{Fills, Steps};
+ghost use Rattle.grammar.specs.Tables.{max_rank, padded};
+ghost use Rattle.grammar.specs.Inner.Parts.{dimids, vars, more_vars};
+ghost use Rattle.grammar.specs.Vars.{var, var_list};
 
-use crate::attrs::{AttrStep, parse_attr, parse_attr_count};
-use crate::tables::{Attr, Listed, MAX_RANK, MAX_VARS, Tables, Var};
+use crate::attrs::{parse_attr_count, parse_attrs};
+use crate::tables::{MAX_RANK, MAX_VARS, Tables, Var};
 use cdf::list::{VARIABLE_TAG, parse_list_start};
-use cdf::step::{Next, Word};
+use cdf::place::Place;
+use cdf::refusal::Stop;
+use cdf::step::Step;
 use cdf::word::{parse_count, parse_non_neg, parse_offset, parse_open_count};
 use items::name::parse_name_string;
-use items::types::{DataType, Typed, parse_data_type};
+use items::types::parse_data_type;
 
-// A variable's row with what was read of it so far, and where that ends; or the refusal.
-#[derive(Clone, Copy)]
-pub struct Rowed {
-    pub next: Next,
-    pub row: Var,
-}
-
-// The same with the number of attributes that follow.
-#[derive(Clone, Copy)]
-pub struct Started {
-    pub next: Next,
-    pub row: Var,
-    pub attrs: usize,
-}
-
-// What stands after a variable's attributes.
-#[derive(Clone, Copy)]
-pub struct Tail {
-    pub code: u8,
-    pub vsize: u64,
-    pub begin: u64,
-}
-
-#[derive(Clone, Copy)]
-pub enum TailStep {
-    Got(Tail, usize),
-    Stop(u8, usize),
-}
-
-// The `n` dimension ids from `at`.
-fn parse_dim_ids(s: &[u8], size: u64, at: usize, version: u8, n: usize, row: Var) -> Rowed
-    requires { (at ≤ length s.now) × (row.rank ≡ 0) × (n ≤ 8) }
-    ensures { (m k : ℕ) → row ≡ headed (record { name = m; chars = k; ids = [] }) → of_rowed result ≡ into (λ is. headed (record { name = m; chars = k; ids = is })) (dimids (form version) s.now size n at) }
+// The `rank` dimension ids from the place on.
+fn parse_dim_ids(place: Place, version: u8, rank: u32) -> Step<[u32; 8]>
+    requires { rank ≤ 8 }
+    ensures { Steps place.entry (λ s size at. into (padded max_rank 0) (dimids (form version) rank s size at)) result }
 {
-    let mut v = row;
-    let mut at = at;
-    let mut i = 0;
-    while i < n {
-        match parse_non_neg(s, size, at) {
-            Word::Stop(k, p) => {
-                return Rowed {
-                    next: Next::Stop(k, p),
-                    row: v,
-                };
-            }
-            Word::Got(id, end) => {
-                let m = v.rank;
-                v.ids[m as usize] = id as u32;
-                v.rank = m + 1;
-                at = end;
-            }
-        }
-        i += 1;
+    let mut ids = [0; 8];
+    let mut at = place;
+    for i in 0..rank {
+        let (id, next) = parse_non_neg(at)?;
+        ids[i as usize] = id;
+        at = next;
     }
-    Rowed {
-        next: Next::At(at),
-        row: v,
-    }
+    Ok((ids, at))
 }
 
-// A row with its name alone.
-fn named(name: usize, chars: u32) -> Var
-    ensures { result ≡ headed (record { name = name; chars = chars; ids = [] }) }
+// A variable, its attributes into the rows after those that are taken.
+#[tactic(auto, unfolding(cdf::specs::Step::bind, cdf::specs::Step::into, crate::specs::Inner::Parts::dimids, crate::specs::Inner::Parts::attrs, crate::specs::Attrs::attr_list, crate::specs::Vars::var))]
+fn parse_var<'a>(place: Place<'a>, version: u8, tables: &mut Tables) -> Result<Place<'a>, Stop>
+    requires { (tables.old.nvars < 64) × (tables.old.nattrs ≤ 128) }
+    ensures filled { Fills place.entry tables.new (λ s size at. into (λ v. more_vars tables.old (v ∷ [])) (var (form version) s size tables.old.nattrs at)) result }
+    ensures within { IfOk result (λ _. tables.new.nattrs ≤ 128) }
 {
-    Var {
-        name,
-        chars,
-        ids: [0; 8],
-        rank: 0,
-        first: 0,
-        attrs: 0,
-        code: 0,
-        vsize: 0,
-        begin: 0,
-    }
+    let (chars, rank_at) = parse_name_string(place)?;
+    let (rank, ids_at) = parse_count(rank_at, MAX_RANK as u64)?;
+    let (ids, attrs_at) = parse_dim_ids(ids_at, version, rank)?;
+    let first = tables.nattrs;
+    let (attrs, first_at) = parse_attr_count(attrs_at, first)?;
+    let type_at = parse_attrs(first_at, version, attrs, tables)?;
+    let (kind, vsize_at) = parse_data_type(type_at)?;
+    let (vsize, begin_at) = parse_open_count(vsize_at)?;
+    let (begin, end) = parse_offset(begin_at, version)?;
+    tables.push_var(Var {
+        name: place.at + 4,
+        chars: chars as u32,
+        ids,
+        rank: rank as u8,
+        first: first as u8,
+        attrs: attrs as u8,
+        code: kind.code(),
+        vsize,
+        begin,
+    });
+    Ok(end)
 }
 
-// A variable's name, number of dimensions and their ids.
-fn parse_var_head(s: &[u8], size: u64, at: usize, version: u8) -> Rowed
-    requires { at ≤ length s.now }
-    ensures { of_rowed result ≡ into headed (var_head (form version) s.now size at) }
+// The `count` variables from the place on, into the rows after those that are taken.
+fn parse_vars<'a>(
+    place: Place<'a>,
+    version: u8,
+    count: u32,
+    tables: &mut Tables,
+) -> Result<Place<'a>, Stop>
+    requires { (tables.old.nvars + count ≤ 64) × (tables.old.nattrs ≤ 128) }
+    ensures { Fills place.entry tables.new (λ s size at. into (more_vars tables.old) (vars (form version) tables.old.nattrs count s size at)) result }
 {
-    match parse_name_string(s, size, at) {
-        Word::Stop(k, p) => Rowed {
-            next: Next::Stop(k, p),
-            row: named(0, 0),
-        },
-        Word::Got(chars, after_name) => match parse_count(s, size, after_name, MAX_RANK as u64) {
-            Word::Stop(k, p) => Rowed {
-                next: Next::Stop(k, p),
-                row: named(0, 0),
-            },
-            Word::Got(rank, ids) => {
-                parse_dim_ids(
-                    s,
-                    size,
-                    ids,
-                    version,
-                    rank as usize,
-                    named(at + 4, chars as u32),
-                )
-            }
-        },
+    let mut at = place;
+    for _ in 0..count {
+        at = parse_var(at, version, tables)?;
     }
+    Ok(at)
 }
 
-// A variable's type, vsize and begin.
-fn parse_var_tail(s: &[u8], size: u64, at: usize, version: u8) -> TailStep
-    requires { at ≤ length s.now }
-    ensures { of_tail result ≡ var_tail (form version) s.now size at }
+// The list of variables, into tables that have none.
+#[tactic(auto, unfolding(cdf::specs::Step::bind, cdf::specs::Step::into, crate::specs::Inner::Parts::vars, crate::specs::Vars::var_list))]
+pub(crate) fn parse_vars_list<'a>(
+    place: Place<'a>,
+    version: u8,
+    tables: &mut Tables,
+) -> Result<Place<'a>, Stop>
+    requires { (tables.old.nvars ≡ 0) × (tables.old.nattrs ≤ 128) }
+    ensures { Fills place.entry tables.new (λ s size at. into (more_vars tables.old) (var_list (form version) s size tables.old.nattrs at)) result }
 {
-    match parse_data_type(s, size, at) {
-        Typed::Stop(k, p) => TailStep::Stop(k, p),
-        Typed::Got(kind, after_type) => match parse_open_count(s, size, after_type) {
-            Word::Stop(k, p) => TailStep::Stop(k, p),
-            Word::Got(vsize, after_vsize) => match parse_offset(s, size, after_vsize, version) {
-                Word::Stop(k, p) => TailStep::Stop(k, p),
-                Word::Got(begin, end) => TailStep::Got(
-                    Tail {
-                        code: kind.code(),
-                        vsize,
-                        begin,
-                    },
-                    end,
-                ),
-            },
-        },
-    }
-}
-
-// The whole row of a variable whose `attrs` attributes start at the row `first`.
-fn joined(row: Var, first: u8, attrs: u8, tail: Tail) -> Var
-    ensures { (h : VarHead) (xs : List Attr) → row ≡ headed h → attrs ≡ length xs → result ≡ var_row first (item h xs tail) }
-{
-    let mut v = row;
-    v.first = first;
-    v.attrs = attrs;
-    v.code = tail.code;
-    v.vsize = tail.vsize;
-    v.begin = tail.begin;
-    v
-}
-
-// A refusal on the way, with the tables as they are.
-pub(crate) fn stopped(k: u8, p: usize, tables: Tables) -> Listed
-    ensures { of_listed result ≡ stop k p }
-{
-    Listed {
-        next: Next::Stop(k, p),
-        tables,
-    }
-}
-
-// A variable up to the first of its attributes, where `used` attribute rows are taken.
-fn parse_var_start(s: &[u8], size: u64, at: usize, version: u8, used: usize) -> Started
-    requires { (at ≤ length s.now) × (used ≤ 128) }
-    ensures { (of_started result ≡ into begun (var_start (form version) s.now size used at)) × (used + result.attrs ≤ 128) }
-{
-    let head = parse_var_head(s, size, at, version);
-    let next = head.next;
-    let row = head.row;
-    match next {
-        Next::Stop(k, p) => Started {
-            next: Next::Stop(k, p),
-            row,
-            attrs: 0,
-        },
-        Next::At(list) => match parse_attr_count(s, size, list, used) {
-            Word::Stop(k, p) => Started {
-                next: Next::Stop(k, p),
-                row,
-                attrs: 0,
-            },
-            Word::Got(count, items) => Started {
-                next: Next::At(items),
-                row,
-                attrs: count as usize,
-            },
-        },
-    }
-}
-
-// The `n` variables from `at`. The attributes of each are read in place: a call that took the
-// tables would copy them for every variable.
-fn parse_vars(s: &[u8], size: u64, at: usize, version: u8, n: usize, tables: Tables) -> Listed
-    requires { (at ≤ length s.now) × (tables.nvars + n ≤ 64) × (tables.nattrs ≤ 128) }
-    ensures { (w : ℕ) (ds : List Dim) (gs : List Attr) → tables ≡ laid (tree version w size ds gs []) → of_listed result ≡ into (λ vs. laid (tree version w size ds gs vs)) (vars (form version) s.now size tables.nattrs n at) }
-{
-    let mut t = tables;
-    let mut at = at;
-    let mut i = 0;
-    while i < n {
-        let first = t.nattrs;
-        let start = parse_var_start(s, size, at, version, first);
-        let next = start.next;
-        match next {
-            Next::Stop(k, p) => return stopped(k, p, t),
-            Next::At(items) => at = items,
-        }
-        let count = start.attrs;
-        let mut j = 0;
-        while j < count {
-            match parse_attr(s, size, at, version) {
-                AttrStep::Stop(k, p) => return stopped(k, p, t),
-                AttrStep::Got(a, end) => {
-                    let m = t.nattrs;
-                    t.attrs[m] = a;
-                    t.nattrs = m + 1;
-                    at = end;
-                }
-            }
-            j += 1;
-        }
-        match parse_var_tail(s, size, at, version) {
-            TailStep::Stop(k, p) => return stopped(k, p, t),
-            TailStep::Got(tail, end) => {
-                let m = t.nvars;
-                let row = start.row;
-                t.vars[m] = joined(row, first as u8, count as u8, tail);
-                t.nvars = m + 1;
-                at = end;
-            }
-        }
-        i += 1;
-    }
-    Listed {
-        next: Next::At(at),
-        tables: t,
-    }
-}
-
-// The list of variables at `at`, into tables that have none.
-pub(crate) fn parse_vars_list(s: &[u8], size: u64, at: usize, version: u8, tables: Tables) -> Listed
-    requires { (at ≤ length s.now) × (tables.nvars ≡ 0) × (tables.nattrs ≤ 128) }
-    ensures { (w : ℕ) (ds : List Dim) (gs : List Attr) → tables ≡ laid (tree version w size ds gs []) → of_listed result ≡ into (λ vs. laid (tree version w size ds gs vs)) (var_list (form version) s.now size tables.nattrs at) }
-{
-    match parse_list_start(s, size, at, VARIABLE_TAG, MAX_VARS as u64) {
-        Word::Stop(k, p) => stopped(k, p, tables),
-        Word::Got(n, next) => parse_vars(s, size, next, version, n as usize, tables),
-    }
+    let (count, first) = parse_list_start(place, VARIABLE_TAG, MAX_VARS as u64)?;
+    parse_vars(first, version, count, tables)
 }

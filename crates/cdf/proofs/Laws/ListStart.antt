@@ -8,14 +8,14 @@ use native.Mathlib.Omega.{arith}
 use native.Mathlib.Nat.{not-suc-le-zero, le_of_suc-le-suc}
 use lib.ListN.{length, get_or, replicate, length-replicate, get_or-replicate}
 use lib.Dec.{leb}
-use borrow.Author.Tests.{le-leb, leb-true}
+use borrow.Author.Tests.{le-leb}
 use Rattle.cdf.specs.Step.{Step, got, stop, test, unfinished}
 use Rattle.cdf.specs.Word.{nelems}
 use Rattle.cdf.specs.Magic.{begins}
 use Rattle.cdf.specs.ListStart.{list_start}
-use Rattle.cdf.proofs.Laws.Step.{Ends, ended, stopped, test-ends, unfinished-ends, by-true, by-false, test-came}
+use Rattle.cdf.proofs.Laws.Step.{by-true, by-false, test-came}
 use Rattle.cdf.proofs.Laws.Below.{order}
-use Rattle.cdf.proofs.Laws.Word.{nelems-ends, nelems-within}
+use Rattle.cdf.proofs.Laws.Word.{nelems-within}
 use Rattle.cdf.proofs.Laws.Magic.{begins-all, begins-at}
 
 -- the four bytes of a tag
@@ -64,8 +64,3 @@ module _ (absent k tag room : ℕ) (s : List ℕ) (size at : ℕ) where
       taken true false g = let z : ◌≡◌ {A = ℕ} 0 1 = cc in omega arith
       taken false c g = nelems-within k s size (at + 4) room (test-came {t = begins (tag_bytes tag) s at} {x = nelems room k s size (at + 4)} 9 at g).1
 
-  pub start-ends : Ends (length s) (list_start absent k tag room s size at)
-  unfolding list_start
-  start-ends =
-      test-ends _ _ _ (λ _. test-ends _ _ _ (λ h. ended _ _ (leb-true _ _ h)) (λ _. unfinished-ends s size))
-      (λ _. test-ends _ _ _ (λ _. nelems-ends k s size (at + 4) room) (λ _. stopped _ _))

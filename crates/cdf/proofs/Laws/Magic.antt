@@ -10,12 +10,12 @@ use Rattle.std.proofs.lemmas.List.{take_rest, get_or-drop}
 use Rattle.std.specs.List.{list_all, zip}
 use Rattle.std.specs.Bool.{◌==◌}
 use lib.Dec.{leb, eqb, leb-suc-suc, leb-suc-zero}
-use borrow.Author.Tests.{lt-leb, le-leb, leb-true, eq-eqb, ne_eqb, eqb-true}
+use borrow.Author.Tests.{lt-leb, le-leb, eq-eqb, ne_eqb, eqb-true}
 use Rattle.cdf.specs.Below.{all_below}
-use Rattle.cdf.specs.Step.{got, stop, test, unfinished}
+use Rattle.cdf.specs.Step.{got, stop}
 use Rattle.cdf.specs.Magic.{begins, cdf, magic, admits, version_byte}
 use Rattle.cdf.specs.declared.version.Admitted.{Admitted}
-use Rattle.cdf.proofs.Laws.Step.{Ends, ended, stopped, test-ends, unfinished-ends, by-true, by-false}
+use Rattle.cdf.proofs.Laws.Step.{by-true, by-false}
 use Rattle.cdf.proofs.Laws.Below.{order, all_hold, one-fails, holds_at, same-below, first-apart}
 
 either : (a b : Bool) → a ≡ false → (a || b) ≡ true → b ≡ true
@@ -76,32 +76,12 @@ module _ (s : List ℕ) (size : ℕ) where
   unfolding magic
   magic-got b h = by-true _ b (by-true _ (le-leb 3 (length s) h) refl)
 
-  pub magic-ends : Ends (length s) (magic s size)
-  unfolding magic
-  magic-ends = test-ends _ _ _ (λ _. test-ends _ _ _ (λ h. ended _ _ (leb-true _ _ h)) (λ _. unfinished-ends s size)) (λ _. stopped _ _)
+module _ (a : Admitted) (s : List ℕ) (size at : ℕ) where
+  pub version_byte-got : {v : ℕ} → at < length s → v ≡ get_or s at 0 → true ≡ admits a v → got v (at + 1) ≡ version_byte a s size at
+  unfolding version_byte
+  version_byte-got h e b =
+      by-true _ (le-leb (at + 1) (length s) (omega arith)) (by-true _ (ap (admits a) (sym e) ∙ sym b) (ap (λ (v : ℕ). got v (at + 1)) e))
 
-module _ (a : Admitted) where
-  module _ (s : List ℕ) (size at : ℕ) where
-    pub version_byte-got : {v : ℕ} → at < length s → v ≡ get_or s at 0 → true ≡ admits a v → got v (at + 1) ≡ version_byte a s size at
-    unfolding version_byte
-    version_byte-got h e b =
-        by-true _ (le-leb (at + 1) (length s) (omega arith)) (by-true _ (ap (admits a) (sym e) ∙ sym b) (ap (λ (v : ℕ). got v (at + 1)) e))
-
-    pub version_byte-bad : {v : ℕ} → at < length s → v ≡ get_or s at 0 → false ≡ admits a v → stop 4 at ≡ version_byte a s size at
-    unfolding version_byte
-    version_byte-bad h e b = by-true _ (le-leb (at + 1) (length s) (omega arith)) (by-false _ (ap (admits a) (sym e) ∙ sym b) refl)
-
-    -- a version that is taken is the byte
-    pub version_byte-is : {v n : ℕ} → got v n ≡ version_byte a s size at → v ≡ get_or s at 0
-    unfolding version_byte test unfinished
-    version_byte-is {v} {n} e = taken (leb (at + 1) (length s)) (admits a (get_or s at 0)) e
-      where
-        taken : (t u : Bool) → got v n ≡ test t (test u (got (get_or s at 0) (at + 1)) (stop 4 at)) (unfinished s size) → v ≡ get_or s at 0
-        taken true true f = cc
-        taken true false f = cc
-        taken false u f = cc
-
-    pub version_byte-ends : Ends (length s) (version_byte a s size at)
-    unfolding version_byte
-    version_byte-ends =
-        test-ends _ _ _ (λ h. test-ends _ _ _ (λ _. ended _ _ (leb-true _ _ h)) (λ _. stopped _ _)) (λ _. unfinished-ends s size)
+  pub version_byte-bad : {v : ℕ} → at < length s → v ≡ get_or s at 0 → false ≡ admits a v → stop 4 at ≡ version_byte a s size at
+  unfolding version_byte
+  version_byte-bad h e b = by-true _ (le-leb (at + 1) (length s) (omega arith)) (by-false _ (ap (admits a) (sym e) ∙ sym b) refl)

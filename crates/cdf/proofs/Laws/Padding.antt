@@ -10,10 +10,10 @@ use Rattle.std.proofs.lemmas.List.{get_or-take, get_or-drop}
 use Rattle.std.specs.List.{list_all}
 use Rattle.std.specs.Bool.{◌==◌}
 use lib.Dec.{eqb}
-use borrow.Author.Tests.{le-leb, leb-true, eq-eqb}
+use borrow.Author.Tests.{le-leb, eq-eqb}
 use Rattle.cdf.specs.Step.{got}
 use Rattle.cdf.specs.Padding.{padding, zeros, zero_padding}
-use Rattle.cdf.proofs.Laws.Step.{Ends, ended, stopped, test-ends, unfinished-ends, by-true}
+use Rattle.cdf.proofs.Laws.Step.{by-true}
 use Rattle.cdf.specs.Below.{all_below}
 use Rattle.cdf.proofs.Laws.Below.{all_hold, each-below, same-below}
 
@@ -38,7 +38,3 @@ module _ (n : ℕ) (s : List ℕ) (size at : ℕ) {k : ℕ} (is : k ≡ padding 
   unfolding zero_padding
   padding-got h z = rw is (by-true _ (le-leb _ _ (rw is at h)) (by-true _ (rw is at (sym z)) refl))
 
-pub padding-ends : (n : ℕ) (s : List ℕ) (size at : ℕ) → Ends (length s) (zero_padding n s size at)
-unfolding zero_padding
-padding-ends n s size at =
-    test-ends _ _ _ (λ h. test-ends _ _ _ (λ _. ended _ _ (leb-true _ _ h)) (λ _. stopped _ _)) (λ _. unfinished-ends s size)

@@ -1,43 +1,12 @@
--- Laws of steps: one after the other, checks, runs, and where a step ends.
+-- Laws of steps: one after the other, checks and runs.
 use Prim.Native.Nat.{ℕ, zero, suc, ◌+◌, ◌-◌, ◌≤◌, ◌<◌}
 use native.Mathlib.Nat.{sub-zero}
 use native.Mathlib.Omega.{arith}
 use mathlib.Core.Path.{◌≡◌, refl, sym, subst, ap, ◌∙◌}
-use mathlib.Core.Bool.{Bool, true, false, cond}
+use mathlib.Core.Bool.{Bool, true, false}
 use mathlib.Core.List.{List, [], ◌∷◌, ◌++◌}
 use lib.ListN.{length, length-append}
-use lib.Dec.{ltb}
 use Rattle.cdf.specs.Step.{Step, got, stop, bind, test, unless, need, into, items, unfinished, number_of, given_or, Leaves}
-
--- a step that is taken ends at a place up to b
-pub data Ends {A : Type 0} (b : ℕ) : Step A → Type 0 where
-  ended : (a : A) (n : ℕ) → n ≤ b → Ends b (got a n)
-  stopped : (k p : ℕ) → Ends b (stop k p)
-
-pub bind-ends : {A B : Type 0} {b : ℕ} (m : Step A) (f : A → ℕ → Step B) → Ends b m → ((a : A) (n : ℕ) → n ≤ b → Ends b (f a n)) → Ends b (bind m f)
-unfolding bind
-bind-ends (got a n) f (ended _ _ h) k = k a n h
-bind-ends (stop i p) f (stopped _ _) k = stopped i p
-
-pub test-ends : {A : Type 0} {b : ℕ} (t : Bool) (x y : Step A) → (t ≡ true → Ends b x) → (t ≡ false → Ends b y) → Ends b (test t x y)
-unfolding test
-test-ends true x y h k = h refl
-test-ends false x y h k = k refl
-
-pub items-ends : {A : Type 0} {b : ℕ} (f : List A → ℕ → Step A) → ((xs : List A) (at : ℕ) → at ≤ b → Ends b (f xs at)) → (n : ℕ) (xs : List A) (at : ℕ) → at ≤ b → Ends b (items f n xs at)
-unfolding items
-items-ends f e zero xs at h = ended xs at h
-items-ends f e (suc n) xs at h = bind-ends _ _ (e xs at h) (λ x q l. items-ends f e n (xs ++ (x ∷ [])) q l)
-
-pub unfinished-ends : {A : Type 0} {b : ℕ} (s : List ℕ) (size : ℕ) → Ends b (unfinished {A = A} s size)
-unfolding unfinished
-unfinished-ends s size = stopped _ _
-
-got-up : {A : Type 0} {b n : ℕ} {a : A} → Ends b (got a n) → n ≤ b
-got-up (ended _ _ h) = h
-
-pub got-ends : {A : Type 0} {b n : ℕ} {a : A} {m : Step A} → got a n ≡ m → Ends b m → n ≤ b
-got-ends {b = b} e h = got-up (subst (λ m. Ends b m) (sym e) h)
 
 -- a step after a step: by the value that the first gives, or by its refusal
 pub by-got : {A B : Type 0} {a : A} {n : ℕ} {m : Step A} (f : A → ℕ → Step B) (x : Step B) → got a n ≡ m → x ≡ f a n → x ≡ bind m f
@@ -57,10 +26,6 @@ pub by-false : {A : Type 0} {t : Bool} {z y : Step A} (x : Step A) → t ≡ fal
 unfolding test
 by-false {z = z} {y = y} x e h = subst (λ (b : Bool). z ≡ test b x y) (sym e) h
 
-pub is-unfinished : {A : Type 0} {k : ℕ} (s : List ℕ) (size : ℕ) → k ≡ cond (ltb (length s) size) 1 2 → stop k (length s) ≡ unfinished {A = A} s size
-unfolding unfinished
-is-unfinished s size e = ap (λ (k : ℕ). stop k (length s)) e
-
 -- a step that was taken came by its parts
 pub bind-came : {A B : Type 0} {b : B} {n : ℕ} (m : Step A) (f : A → ℕ → Step B) → got b n ≡ bind m f → (Q : Type 0) → ((a : A) (p : ℕ) → got a p ≡ m → got b n ≡ f a p → Q) → Q
 unfolding bind
@@ -77,11 +42,6 @@ test-came {t = false} k p e = (cc, cc)
 
 pub got_same : {A : Type 0} {a b : A} {n m : ℕ} → got a n ≡ got b m → a ≡ b
 got_same e = cc
-
--- a step seen through a function
-pub into-after : {A B C : Type 0} {a : A} {n : ℕ} {m : Step A} (g : B → C) (f : A → ℕ → Step B) (x : Step C) → got a n ≡ m → x ≡ into g (f a n) → x ≡ into g (bind m f)
-unfolding bind
-into-after g f x e h = subst (λ m. x ≡ into g (bind m f)) e h
 
 pub into-last : {A B C : Type 0} (g : B → C) (h : A → B) (m : Step A) → into (λ a. g (h a)) m ≡ into g (bind m (λ a n. got (h a) n))
 unfolding into bind
@@ -100,11 +60,6 @@ pub into-stopped : {A B : Type 0} {k p : ℕ} (g : A → B) (m : Step A) → sto
 unfolding into
 into-stopped g (got a n) e = cc
 into-stopped g (stop i q) e = cc
-
-pub into-ends : {A B : Type 0} {b : ℕ} (g : A → B) (m : Step A) → Ends b m → Ends b (into g m)
-unfolding into
-into-ends g (got a n) (ended _ _ h) = ended (g a) n h
-into-ends g (stop i p) (stopped _ _) = stopped i p
 
 pub into-came : {A B : Type 0} {b : B} {n : ℕ} (g : A → B) (m : Step A) → got b n ≡ into g m → (a : A) × (got a n ≡ m) × (b ≡ g a)
 unfolding into

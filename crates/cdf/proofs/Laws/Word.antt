@@ -6,33 +6,21 @@ use mathlib.Core.List.{List}
 use native.Mathlib.Omega.{arith}
 use lib.ListN.{length}
 use lib.Dec.{ltb}
-use borrow.Author.Tests.{lt-ltb, le-leb, leb-true, ltb-true, eq-eqb}
+use borrow.Author.Tests.{lt-ltb, le-leb, leb-true, eq-eqb}
 use Rattle.cdf.specs.Step.{Step, got, stop, bind}
 use Rattle.bigendian.specs.Number.{be, half, extended}
 use Rattle.cdf.specs.Word.{word, non_negative, open_count, nelems, signed}
 use Rattle.bigendian.proofs.Laws.Number.{extended-8}
-use Rattle.cdf.proofs.Laws.Step.{Ends, ended, stopped, bind-ends, test-ends, unfinished-ends, by-got, by-true, bind-came, test-came, got_same}
+use Rattle.cdf.proofs.Laws.Step.{by-got, by-true, bind-came, test-came, got_same}
 
 module _ (k : ℕ) (s : List ℕ) (size at : ℕ) where
   pub word_got : {v : ℕ} → at + k ≤ length s → v ≡ be k s at → got v (at + k) ≡ word k s size at
   unfolding word
   word_got h e = by-true _ (le-leb (at + k) (length s) h) (ap (λ (v : ℕ). got v (at + k)) e)
 
-  pub word-ends : Ends (length s) (word k s size at)
-  unfolding word
-  word-ends = test-ends _ _ _ (λ h. ended _ _ (leb-true _ _ h)) (λ _. unfinished-ends s size)
-
   pub non_negative-got : {v n : ℕ} → got v n ≡ word k s size at → v < half k → got v n ≡ non_negative k s size at
   unfolding non_negative
   non_negative-got e h = by-got _ _ e (by-true _ (lt-ltb _ _ h) refl)
-
-  pub non_negative-below : {v n : ℕ} → got v n ≡ non_negative k s size at → v < half k
-  unfolding non_negative
-  non_negative-below {v} e = bind-came _ _ e (v < half k) (λ a p _ f. let g = test-came _ _ f in let h = ltb-true a (half k) g.0 in let i = got_same g.1 in omega arith)
-
-  pub non_negative-ends : Ends (length s) (non_negative k s size at)
-  unfolding non_negative
-  non_negative-ends = bind-ends _ _ word-ends (λ v n h. test-ends _ _ _ (λ _. ended _ _ h) (λ _. stopped _ _))
 
   pub open_count-got : {v n : ℕ} → got v n ≡ word k s size at → v < half k → got v n ≡ open_count k s size at
   unfolding open_count
@@ -42,17 +30,9 @@ module _ (k : ℕ) (s : List ℕ) (size at : ℕ) where
   unfolding open_count
   open_count-open {v} e h = by-got _ _ e (by-true _ (rw (eq-eqb v (2 ^ (8 * k) - 1) h) (or-true (ltb v (half k)))) refl)
 
-  pub open_count-ends : Ends (length s) (open_count k s size at)
-  unfolding open_count
-  open_count-ends = bind-ends _ _ word-ends (λ v n h. test-ends _ _ _ (λ _. ended _ _ h) (λ _. stopped _ _))
-
   pub signed-got : {v x n : ℕ} → got v n ≡ word k s size at → x ≡ extended k v → got x n ≡ signed k s size at
   unfolding signed
   signed-got {n = n} e h = by-got _ _ e (ap (λ (x : ℕ). got x n) h)
-
-  pub signed-ends : Ends (length s) (signed k s size at)
-  unfolding signed
-  signed-ends = bind-ends _ _ word-ends (λ v n h. ended _ _ h)
 
   module _ (capacity : ℕ) where
     pub nelems-got : {v n : ℕ} → got v n ≡ non_negative k s size at → v ≤ capacity → got v n ≡ nelems capacity k s size at
@@ -62,10 +42,6 @@ module _ (k : ℕ) (s : List ℕ) (size at : ℕ) where
     pub nelems-within : {v n : ℕ} → got v n ≡ nelems capacity k s size at → v ≤ capacity
     unfolding nelems
     nelems-within {v} e = bind-came _ _ e (v ≤ capacity) (λ a p _ f. let g = test-came _ _ f in let h = leb-true a capacity g.0 in let i = got_same g.1 in omega arith)
-
-    pub nelems-ends : Ends (length s) (nelems capacity k s size at)
-    unfolding nelems
-    nelems-ends = bind-ends _ _ non_negative-ends (λ v n h. test-ends _ _ _ (λ _. ended _ _ h) (λ _. stopped _ _))
 
 kept : (m : Step ℕ) → m ≡ bind m (λ v n. got (extended 8 v) n)
 unfolding bind

@@ -1,5 +1,5 @@
 -- The tables of a header that was read are within the capacities, and so have the shape that reads ask for.
-use Prim.Native.Nat.{ℕ, ◌+◌, ◌≤◌, ◌<◌}
+use Prim.Native.Nat.{ℕ, ◌+◌, ◌-◌, ◌≤◌, ◌<◌}
 use native.Mathlib.Omega.{arith}
 use native.Mathlib.Nat.{not-suc-le-zero}
 use mathlib.Core.Path.{◌≡◌, ap, subst, sym, ◌∙◌}
@@ -15,7 +15,7 @@ use Rattle.cdf.proofs.Laws.Word.{nelems-within}
 use Rattle.cdf.proofs.Laws.ListStart.{start-within}
 use Rattle.cdf.proofs.Laws.Step.{bind-came, got_same, into-came, items-length, items_keep}
 use Rattle.grammar.specs.Tables.{no_var, zero_var, var_row, var_rows, laid}
-use Rattle.grammar.specs.Inner.Parts.{VarHead, var_head, vars, dimids}
+use Rattle.grammar.specs.Inner.Parts.{vars}
 use Rattle.grammar.specs.Tree.{VarItem, Tree, attrs_of}
 use Rattle.grammar.specs.Dims.{dim_list}
 use Rattle.grammar.specs.Vars.{var, var_list}
@@ -25,7 +25,9 @@ use Rattle.grammar.specs.declared.tables.Dim.{Dim}
 use Rattle.grammar.specs.declared.tables.Var.{Var}
 use Rattle.grammar.specs.declared.tables.Tables.{Tables}
 use Rattle.grammar.proofs.Laws.Tables.{get_or-padded, length_more, length-rows, attrs_of-more, rows_more}
-use Rattle.grammar.proofs.Laws.Lists.{var-split, tail-code, attr_list-within}
+use Rattle.grammar.specs.Attrs.{attr_list}
+use Rattle.items.proofs.Laws.Types.{type-within}
+use Rattle.grammar.specs.declared.tables.Attr.{Attr}
 
 row-shaped : {v : Var} → RowWithin v → RowShaped v
 row-shaped r = record { rank = r.rank; low = r.low; high = r.high }
@@ -50,29 +52,33 @@ module _ (f : Form) (s : List ℕ) (size : ℕ) where
   unfolding dim_list
   dim_list-within {ds} at e = bind-came _ _ e (length ds ≤ 32) (λ n p c g. let l = items-length _ _ _ _ g in let m = start-within _ _ _ 32 _ _ _ c in omega arith)
 
-  head-within : {h : VarHead} {e : ℕ} (at : ℕ) → got h e ≡ var_head f s size at → length h.ids ≤ 8
-  unfolding var_head dimids
-  head-within {h} at e =
-      bind-came _ _ e (length h.ids ≤ 8) (λ n p _ g.
-      bind-came _ _ g (length h.ids ≤ 8) (λ k q c i.
-      bind-came _ _ i (length h.ids ≤ 8) (λ is r d j.
-      let same = ap (λ (x : VarHead). length x.ids) (got_same j) in let l = items-length _ _ _ _ d in let m = nelems-within _ _ _ _ 8 c in omega arith)))
+  pub attr_list-within : {xs : List Attr} {e : ℕ} (used at : ℕ) → got xs e ≡ attr_list f s size used at → length xs ≤ 128 - used
+  unfolding attr_list
+  attr_list-within {xs} used at e =
+      bind-came _ _ e (length xs ≤ 128 - used) (λ n p c g. let l = items-length _ _ _ _ g in let m = start-within _ _ _ (128 - used) _ _ _ c in omega arith)
 
 module _ (version : ℕ) (s : List ℕ) (size : ℕ) where
   var-within : {v : VarItem} {e : ℕ} (used at : ℕ) → used ≤ 128 → got v e ≡ var (form version) s size used at → RowWithin (var_row used v)
+  unfolding var
   var-within {v} used at u e =
-      bind-came _ _ (e ∙ sym (var-split (form version) s size used at)) (RowWithin (var_row used v)) (λ h p a g.
-      bind-came _ _ g (RowWithin (var_row used v)) (λ xs q b i.
-      bind-came _ _ i (RowWithin (var_row used v)) (λ z r c j.
-      let l = attr_list-within (form version) s size used p b in
-      let k = tail-code (form version) s size q c in
-      subst (λ (x : VarItem). RowWithin (var_row used x)) (sym (got_same j)) (record { rank = head-within (form version) s size at a; span = omega arith; low = k.0; high = k.1 }))))
+      bind-came _ _ e (RowWithin (var_row used v)) (λ n p _ f.
+      bind-came _ _ f (RowWithin (var_row used v)) (λ k q count f.
+      bind-came _ _ f (RowWithin (var_row used v)) (λ is r ids f.
+      bind-came _ _ f (RowWithin (var_row used v)) (λ xs x attrs f.
+      bind-came _ _ f (RowWithin (var_row used v)) (λ code y type f.
+      bind-came _ _ f (RowWithin (var_row used v)) (λ z w _ f.
+      bind-came _ _ f (RowWithin (var_row used v)) (λ b e _ f.
+      let l = items-length _ _ _ _ ids in
+      let m = nelems-within _ _ _ _ 8 count in
+      let a = attr_list-within (form version) s size used r attrs in
+      let c = type-within 6 s size x type in
+      subst (λ (x : VarItem). RowWithin (var_row used x)) (sym (got_same f)) (record { rank = omega arith; span = omega arith; low = c.0; high = c.1 }))))))))
 
   none_within : (used : ℕ) → used ≤ 128 → (used + length (attrs_of []) ≤ 128) × Rows (var_rows used [])
   unfolding attrs_of var_rows
   none_within used u = (omega arith, λ i h. absurd (not-suc-le-zero h))
 
-  vars-within : {vs : List VarItem} {e : ℕ} (used n at : ℕ) → used ≤ 128 → got vs e ≡ vars (form version) s size used n at → (used + length (attrs_of vs) ≤ 128) × Rows (var_rows used vs)
+  vars-within : {vs : List VarItem} {e : ℕ} (used n at : ℕ) → used ≤ 128 → got vs e ≡ vars (form version) used n s size at → (used + length (attrs_of vs) ≤ 128) × Rows (var_rows used vs)
   unfolding vars
   vars-within used n at u e =
       items_keep (λ (vs : List VarItem). (used + length (attrs_of vs) ≤ 128) × Rows (var_rows used vs)) _

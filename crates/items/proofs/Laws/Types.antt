@@ -4,16 +4,15 @@ use mathlib.Core.Path.{◌≡◌, refl, ap}
 use mathlib.Core.Logic.{⊎_elim}
 use mathlib.Core.List.{List}
 use native.Mathlib.Omega.{arith}
-use lib.ListN.{length, get_or-eq_default}
+use lib.ListN.{get_or-eq_default}
 use lib.Dec.{leb, lit≤}
 use borrow.Author.Tests.{le-leb, leb-true}
 use Rattle.cdf.specs.Step.{got}
 use Rattle.cdf.specs.Below.{all_below}
 use Rattle.cdf.specs.Word.{non_negative}
 use Rattle.items.specs.Types.{sizes, size_of, data_type}
-use Rattle.cdf.proofs.Laws.Step.{Ends, ended, stopped, bind-ends, test-ends, by-got, by-true, bind-came, test-came, got_same}
+use Rattle.cdf.proofs.Laws.Step.{by-got, by-true, bind-came, test-came, got_same}
 use Rattle.cdf.proofs.Laws.Below.{order, both, holds_at}
-use Rattle.cdf.proofs.Laws.Word.{non_negative-ends}
 
 -- what holds of each code of a type
 pub by_code : (P : ℕ → Type 0) → P 1 → P 2 → P 3 → P 4 → P 5 → P 6 → (code : ℕ) → 1 ≤ code → code ≤ 6 → P code
@@ -56,6 +55,3 @@ module _ (codes : ℕ) (s : List ℕ) (size at : ℕ) where
       let same = got_same g.1 in
       (omega arith, omega arith))
 
-  pub type-ends : Ends (length s) (data_type codes s size at)
-  unfolding data_type
-  type-ends = bind-ends _ _ (non_negative-ends 4 s size at) (λ v n h. test-ends _ _ _ (λ _. ended _ _ h) (λ _. stopped _ _))

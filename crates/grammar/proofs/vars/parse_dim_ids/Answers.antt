@@ -1,31 +1,29 @@
-use Rattle.grammar.proofs.Laws.Tables.{id-more}
+use Rattle.grammar.proofs.Laws.Tables.{padded-more, length_more}
+use Rattle.grammar.specs.Tables.{padded}
 use Rattle.grammar.specs.Inner.Parts.{dimids}
-use Rattle.cdf.proofs.Laws.Word.{non_negative-ends, non_negative-below}
-use Rattle.cdf.proofs.Laws.Step.{got-ends, into-got, into-stop, read_none, read_more, read-stop, read_done}
-use Rattle.cdf.specs.Inner.Answers.{of_word}
-use native.Mathlib.Omega.{arith}
-use mathlib.Core.List.{[]}
-use mathlib.Core.Path.{sym, ap, ◌∙◌}
+use Rattle.cdf.proofs.Laws.Place.{took_none, took_more, took-stop, took_done}
+use Rattle.cdf.proofs.Laws.Step.{into-got, into-stop}
+use Rattle.std.proofs.Common.{[], refl, arith}
+use Rattle.std.proofs.lemmas.Grind.{common_steps}
 use Rattle.grammar.proofs.vars.parse_dim_ids.Goals as goal
 
 pub loop-i-init : goal.loop-i-init
-loop-i-init c = let p = c.requires in (p.0, omega arith, p.1, [], λ m k e. e, read_none)
+unfolding padded
+loop-i-init c = ([], refl, refl, took_none)
 
-pub returns-in-Stop : goal.returns-in-Stop
+pub returns-in_err-id : goal.returns-in_err-id
 unfolding dimids
-returns-in-Stop c m k f =
-    let l = c.loop-i in
-    into-stop _ (read-stop l.invariant.5 c.loop-i-test.true (ap of_word (sym c.in-Stop.is) ∙ c.parse_non_neg.ensures))
-
-pub overflow_cast-v : goal.overflow_cast-v
-overflow_cast-v c = omega (arith, non_negative-below 4 _ _ _ (ap of_word (sym c.in-Got.is) ∙ c.parse_non_neg.ensures))
+returns-in_err-id c =
+    let l = c.loop-i.invariant in
+    let e = into-stop (padded 8 0) (took-stop l.3 c.loop-i-test.true c.in_err-id.ensures.0) in
+    grind (arith, common_steps, e)
 
 pub loop-i-preserved : goal.loop-i-preserved
 loop-i-preserved c =
-    let l = c.loop-i in
-    let e = ap of_word (sym c.in-Got.is) ∙ c.parse_non_neg.ensures in
-    (got-ends e (non_negative-ends _ _ _ _), omega arith, omega arith, _, λ m k f. id-more m k _ _ (l.invariant.4 m k f), read_more l.invariant.5 c.loop-i-test.true e)
+    let l = c.loop-i.invariant in
+    let e = c.in_ok-id.ensures in
+    (_, rw (← l.2, l.1) (padded-more 8 0 c.in_ok-id.id l.0), omega (arith, length_more l.0 c.in_ok-id.id, l.2), took_more l.3 c.loop-i-test.true e.0 e.1)
 
 pub returns : goal.returns
 unfolding dimids
-returns c m k f = let l = c.loop-i in into-got _ (l.invariant.4 m k f) (read_done l.invariant.5 (omega arith))
+returns c = let l = c.loop-i.invariant in (into-got (padded 8 0) l.1 (took_done l.3 c.loop-i-test.false), l.3.same)

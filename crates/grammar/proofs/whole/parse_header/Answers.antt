@@ -1,38 +1,47 @@
-use Rattle.grammar.proofs.Laws.Tables.{started-word}
+use Rattle.grammar.proofs.Laws.Tables.{started-counts, dims-counts, globals-counts, lists-laid}
+use Rattle.grammar.proofs.Laws.Within.{attr_list-within}
 use Rattle.grammar.specs.Grammar.{header}
-use Rattle.grammar.specs.Inner.Parts.{lists}
-use Rattle.cdf.proofs.Laws.Word.{open_count-ends}
-use Rattle.cdf.proofs.Laws.Magic.{magic-ends, version_byte-ends, version_byte-is}
-use Rattle.cdf.proofs.Laws.Step.{got-ends, by-got, by-stop, into-stop, into-after}
-use Rattle.cdf.specs.Inner.Answers.{of_next, of_word}
-use native.Mathlib.Omega.{arith}
-use mathlib.Core.Path.{sym, ap, ◌∙◌}
+use Rattle.grammar.specs.Tables.{laid}
+use Rattle.grammar.specs.Tree.{tree}
+use Rattle.grammar.specs.Inner.Parts.{more_dims, more_globals, more_vars}
+use Rattle.cdf.specs.Step.{got, stop, bind}
+use Rattle.cdf.specs.Refusals.{number}
+use Rattle.cdf.proofs.Laws.Step.{into-got, into-stop, into-came, into-stopped}
+use Rattle.std.proofs.Common.{◌≡◌, arith}
+use Rattle.std.proofs.lemmas.Grind.{common_steps}
 use Rattle.grammar.proofs.whole.parse_header.Goals as goal
 
-pub parse_version-requires : goal.parse_version-requires
-parse_version-requires c = got-ends (ap of_next (sym c.in-At.is) ∙ c.parse_magic_word.ensures) (magic-ends _ _)
+pub parse_dims_list-requires : goal.parse_dims_list-requires
+parse_dims_list-requires c = started-counts _ _ _ c.started-tables.ensures
 
-pub parse_open_count-requires : goal.parse_open_count-requires
-parse_open_count-requires c = got-ends (ap of_word (sym c.in-Got.is) ∙ c.parse_version.ensures) (version_byte-ends _ _ _ _)
+pub parse_global_attrs_list-requires : goal.parse_global_attrs_list-requires
+parse_global_attrs_list-requires c =
+    let d = into-came (more_dims c.started-tables.result) _ c.in_ok-globals_at.ensures.0 in
+    dims-counts _ _ _ c.started-tables.ensures d.0 d.2
 
-pub overflow_cast-v : goal.overflow_cast-v
-overflow_cast-v c = let e = ap of_word (sym c.in-Got.is) ∙ c.parse_version.ensures in omega (arith, version_byte-is _ _ _ _ e, c.type_inv.s c.in-At.version_at)
+pub parse_vars_list-requires : goal.parse_vars_list-requires
+parse_vars_list-requires c =
+    let d = into-came (more_dims c.started-tables.result) _ c.in_ok-globals_at.ensures.0 in
+    let g = into-came (more_globals c.parse_dims_list.new.tables) _ c.in_ok-vars_at.ensures.0 in
+    let n = globals-counts _ _ _ c.started-tables.ensures d.0 d.2 g.0 g.2 in
+    (n.1, omega (arith, n.0, attr_list-within _ _ _ _ _ g.1))
 
-pub parse_lists-requires : goal.parse_lists-requires
-parse_lists-requires c = (got-ends (ap of_word (sym c.in-Got-parse_open_count.is) ∙ c.parse_open_count.ensures) (open_count-ends _ _ _ _), (started-word _ _ _ c.started.ensures).1)
+pub returns-in_err-end : goal.returns-in_err-end
+unfolding header bind
+returns-in_err-end c =
+    let d = into-came (more_dims c.started-tables.result) _ c.in_ok-globals_at.ensures.0 in
+    let g = into-came (more_globals c.parse_dims_list.new.tables) _ c.in_ok-vars_at.ensures.0 in
+    let n = globals-counts _ _ _ c.started-tables.ensures d.0 d.2 g.0 g.2 in
+    let e = into-stopped (more_vars c.parse_global_attrs_list.new.tables) _ c.in_err-end.ensures.0 in
+    let z : stop (number c.in_err-end.field-0.0.why) c.in_err-end.field-0.0.place ≡ header c.args.admitted c.args.prefix.now c.args.size = grind (arith, common_steps, d.1, g.1, n.0, e) in
+    grind (arith, common_steps, into-stop laid z)
 
-pub returns-in-Stop : goal.returns-in-Stop
-unfolding header lists
-returns-in-Stop c = c.stopped.ensures ∙ into-stop _ (by-stop _ (ap of_next (sym c.in-Stop.is) ∙ c.parse_magic_word.ensures))
-
-pub returns-in-Stop-parse_version : goal.returns-in-Stop-parse_version
-unfolding header lists
-returns-in-Stop-parse_version c = c.stopped-in-Stop-parse_version.ensures ∙ into-stop _ (by-got _ _ (ap of_next (sym c.in-At.is) ∙ c.parse_magic_word.ensures) (by-stop _ (ap of_word (sym c.in-Stop-parse_version.is) ∙ c.parse_version.ensures)))
-
-pub returns-in-Stop-parse_open_count : goal.returns-in-Stop-parse_open_count
-unfolding header lists
-returns-in-Stop-parse_open_count c = c.stopped-in-Stop-parse_open_count.ensures ∙ into-stop _ (by-got _ _ (ap of_next (sym c.in-At.is) ∙ c.parse_magic_word.ensures) (by-got _ _ (ap of_word (sym c.in-Got.is) ∙ c.parse_version.ensures) (by-stop _ (ap of_word (sym c.in-Stop-parse_open_count.is) ∙ c.parse_open_count.ensures))))
-
-pub returns-in-Got-parse_open_count : goal.returns-in-Got-parse_open_count
-unfolding header lists
-returns-in-Got-parse_open_count c = into-after _ _ _ (ap of_next (sym c.in-At.is) ∙ c.parse_magic_word.ensures) (into-after _ _ _ (ap of_word (sym c.in-Got.is) ∙ c.parse_version.ensures) (into-after _ _ _ (ap of_word (sym c.in-Got-parse_open_count.is) ∙ c.parse_open_count.ensures) (rw (← (started-word _ _ _ c.started.ensures).0) c.parse_lists.ensures)))
+pub returns : goal.returns
+unfolding header bind
+returns c =
+    let d = into-came (more_dims c.started-tables.result) _ c.in_ok-globals_at.ensures.0 in
+    let g = into-came (more_globals c.parse_dims_list.new.tables) _ c.in_ok-vars_at.ensures.0 in
+    let n = globals-counts _ _ _ c.started-tables.ensures d.0 d.2 g.0 g.2 in
+    let v = into-came (more_vars c.parse_global_attrs_list.new.tables) _ c.in_ok-end.ensures.0 in
+    let z : got (tree c.in_ok-version.version c.in_ok-word.word c.args.size d.0 g.0 v.0) c.in_ok-end.end.at ≡ header c.args.admitted c.args.prefix.now c.args.size = grind (arith, common_steps, d.1, g.1, v.1, n.0) in
+    into-got laid (lists-laid _ _ _ d.0 g.0 v.0 c.started-tables.ensures d.2 g.2 v.2) z
