@@ -3,7 +3,6 @@ ghost use Rattle.std.specs.Prelude.{◌≡◌};
 ghost use Rattle.header.specs.Header.{refusal, answer, judged, Conforms};
 ghost use Rattle.grammar.specs.Inner.Within.{Within};
 
-use cdf::step::Next;
 use cdf::version::Admitted;
 use grammar::tables::{MAX_POSITION, Tables, blank};
 use grammar::whole::parse_header;
@@ -71,11 +70,8 @@ pub fn read_header(prefix: &[u8], size: u64, admitted: Admitted) -> Header
     if MAX_POSITION < size {
         return refused(21, 0);
     }
-    let read = parse_header(prefix, size, admitted);
-    let next = read.next;
-    let tables = read.tables;
-    match next {
-        Next::Stop(k, p) => refused(k, p),
-        Next::At(end) => judged(prefix, tables, end),
+    match parse_header(prefix, size, admitted) {
+        Err(stop) => refused(stop.why.number(), stop.place),
+        Ok((tables, end)) => judged(prefix, tables, end),
     }
 }

@@ -9,11 +9,13 @@ ghost use Rattle.io.specs.Counts.{IsPrefixLen};
 
 use cdf::list::{DIMENSION_TAG, parse_list_start};
 use cdf::padding::parse_zero_padding;
-use cdf::step::{Next, Word};
+use cdf::place::Place;
+use cdf::refusal::Stop;
+use cdf::step::Step;
 use cdf::version::{Admitted, parse_magic_word, parse_version};
 use cdf::word::{parse_non_neg, parse_offset, parse_open_count};
 use items::name::parse_name_string;
-use items::types::{Typed, parse_data_type};
+use items::types::parse_data_type;
 use items::values::parse_typed_data_elements;
 
 #[derive(Clone, Copy)]
@@ -23,107 +25,114 @@ pub struct Answer {
     pub value: u64,
 }
 
-fn told(number: u8, place: usize, value: u64) -> Answer {
+// The answer where a line has no bytes for what its word needs to be asked.
+const NOTHING: Answer = Answer {
+    number: 0,
+    place: 0,
+    value: 0,
+};
+
+fn read<T>(step: Step<T>) -> Answer
+where
+    u64: From<T>,
+{
+    match step {
+        Ok((value, end)) => Answer {
+            number: 0,
+            place: end.at,
+            value: u64::from(value),
+        },
+        Err(stop) => refused(stop),
+    }
+}
+
+fn passed(step: Result<Place, Stop>) -> Answer {
+    match step {
+        Ok(end) => Answer {
+            number: 0,
+            place: end.at,
+            value: 0,
+        },
+        Err(stop) => refused(stop),
+    }
+}
+
+fn refused(stop: Stop) -> Answer {
     Answer {
-        number,
-        place,
-        value,
+        number: stop.why.number(),
+        place: stop.place,
+        value: 0,
     }
-}
-
-fn of_word(w: Word) -> Answer {
-    match w {
-        Word::Got(v, n) => told(0, n, v),
-        Word::Stop(k, p) => told(k, p, 0),
-    }
-}
-
-fn of_next(w: Next) -> Answer {
-    match w {
-        Next::At(n) => told(0, n, 0),
-        Next::Stop(k, p) => told(k, p, 0),
-    }
-}
-
-fn of_typed(w: Typed) -> Answer {
-    match w {
-        Typed::Got(t, n) => told(0, n, wide(t.code())),
-        Typed::Stop(k, p) => told(k, p, 0),
-    }
-}
-
-fn wide(b: u8) -> u64
-    ensures { result < 256 }
-{
-    b as u64
-}
-
-fn least(a: usize, b: usize) -> usize
-    ensures { (result ≤ a) × (result ≤ b) }
-{
-    if a < b { a } else { b }
-}
-
-fn at_most_eight(a: u64) -> u64
-    ensures { result ≤ 8 }
-{
-    if a < 8 { a } else { 8 }
 }
 
 // The magic word and, after it, the version byte.
-fn start(s: &[u8], size: u64, classic: bool, offset64: bool) -> Answer {
+fn start(s: &[u8], size: u64, admitted: Admitted) -> Answer {
     match parse_magic_word(s, size) {
-        Next::Stop(k, p) => told(k, p, 0),
-        Next::At(n) => {
-            let at = least(n, s.len());
-            of_word(parse_version(s, size, at, Admitted { classic, offset64 }))
-        }
+        Ok(place) => read(parse_version(place, admitted)),
+        Err(stop) => refused(stop),
     }
+}
+
+fn kind(place: Place) -> Answer {
+    read(parse_data_type(place).map(|(kind, end)| (kind.code(), end)))
 }
 
 // The padding after as many bytes as the first byte says.
-fn padding(s: &[u8], size: u64) -> Answer {
-    if s.len() < 1 {
-        return told(0, 0, 0);
+fn padding(place: Place) -> Answer {
+    match place.bytes.first() {
+        Some(count) => passed(
+            place
+                .skip(1)
+                .and_then(|at| parse_zero_padding(at, *count as u64)),
+        ),
+        None => NOTHING,
     }
-    let count = wide(s[0]);
-    of_next(parse_zero_padding(s, size, 1, count))
 }
 
 // As many values as the first byte says, of the width that the second says.
-fn values(s: &[u8], size: u64) -> Answer {
-    if s.len() < 2 {
-        return told(0, 0, 0);
+fn values(place: Place) -> Answer {
+    match place.bytes {
+        [count, width, ..] => {
+            let width = (*width as u64).min(8);
+            passed(
+                place
+                    .skip(2)
+                    .and_then(|at| parse_typed_data_elements(at, *count as u32, width)),
+            )
+        }
+        _ => NOTHING,
     }
-    let count = wide(s[0]);
-    let width = at_most_eight(wide(s[1]));
-    of_next(parse_typed_data_elements(s, size, 2, count, width))
 }
 
-// What the word with the letter `kind` answers for the bytes `s` of a file of `size` bytes.
-fn leaf(kind: u8, s: &[u8], size: u64) -> Answer {
-    match kind {
-        b'w' => of_word(parse_non_neg(s, size, 0)),
-        b'o' => of_word(parse_open_count(s, size, 0)),
-        b'b' => of_word(parse_offset(s, size, 0, 1)),
-        b'B' => of_word(parse_offset(s, size, 0, 2)),
-        b'm' => start(s, size, true, true),
-        b'c' => start(s, size, true, false),
-        b'd' => start(s, size, false, true),
-        b'e' => start(s, size, false, false),
-        b'l' => of_word(parse_list_start(s, size, 0, DIMENSION_TAG, 32)),
-        b'n' => of_word(parse_name_string(s, size, 0)),
-        b't' => of_typed(parse_data_type(s, size, 0)),
-        b'p' => padding(s, size),
-        _ => values(s, size),
+// What the word with the letter answers for the bytes `s` of a file of `size` bytes.
+fn leaf(letter: u8, s: &[u8], size: u64) -> Answer {
+    let place = Place::start(s, size);
+    match letter {
+        b'w' => read(parse_non_neg(place)),
+        b'o' => read(parse_open_count(place)),
+        b'b' => read(parse_offset(place, 1)),
+        b'B' => read(parse_offset(place, 2)),
+        b'm' => start(s, size, admitted(true, true)),
+        b'c' => start(s, size, admitted(true, false)),
+        b'd' => start(s, size, admitted(false, true)),
+        b'e' => start(s, size, admitted(false, false)),
+        b'l' => read(parse_list_start(place, DIMENSION_TAG, 32)),
+        b'n' => read(parse_name_string(place)),
+        b't' => kind(place),
+        b'p' => padding(place),
+        _ => values(place),
     }
+}
+
+fn admitted(classic: bool, offset64: bool) -> Admitted {
+    Admitted { classic, offset64 }
 }
 
 // The bytes before the first cut: those that say a count or a width.
-fn fixed(kind: u8) -> usize
+fn fixed(letter: u8) -> usize
     ensures { result ≤ 2 }
 {
-    match kind {
+    match letter {
         b'p' => 1,
         b'v' => 2,
         _ => 0,
@@ -131,7 +140,7 @@ fn fixed(kind: u8) -> usize
 }
 
 fn print(a: Answer) {
-    io::print_decimal(1, wide(a.number));
+    io::print_decimal(1, a.number as u64);
     io::write_all(1, b" ");
     io::print_decimal(1, a.place as u64);
     io::write_all(1, b" ");
@@ -139,14 +148,11 @@ fn print(a: Answer) {
     io::write_all(1, b"\n");
 }
 
-fn cuts(kind: u8, s: &[u8])
+fn cuts(letter: u8, s: &[u8])
     requires { length s.now ≤ 512 }
 {
-    let start = 0;
-    let mut k = fixed(kind);
-    while k <= s.len() {
-        print(leaf(kind, &s[start..k], s.len() as u64));
-        k += 1;
+    for n in fixed(letter)..s.len() + 1 {
+        print(leaf(letter, &s[..n], s.len() as u64));
     }
 }
 
@@ -154,30 +160,20 @@ fn cuts(kind: u8, s: &[u8])
 fn digit(c: u8) -> u8
     ensures { result < 16 }
 {
-    if c < b'0' {
-        return 0;
+    match c {
+        b'0'..=b'9' => c - b'0',
+        b'a'..=b'f' => c - b'a' + 10,
+        _ => 0,
     }
-    if c <= b'9' {
-        return c - b'0';
-    }
-    if c < b'a' {
-        return 0;
-    }
-    if c <= b'f' {
-        return c - b'a' + 10;
-    }
-    0
 }
 
 // Puts the bytes that `text` spells at the start of `out`, as many as fit, and answers how many.
 fn decode(text: &[u8], out: &mut [u8]) -> usize
     ensures { IsPrefixLen result out.new × (result ≤ 512) }
 {
-    let n = least(least(text.len() / 2, 512), out.len());
-    let mut i = 0;
-    while i < n {
+    let n = (text.len() / 2).min(512).min(out.len());
+    for i in 0..n {
         out[i] = digit(text[2 * i]) * 16 + digit(text[2 * i + 1]);
-        i += 1;
     }
     n
 }
@@ -189,36 +185,16 @@ fn line(text: &[u8]) {
     if text.len() < 2 {
         return;
     }
-    let kind = text[0];
+    let letter = text[0];
     let mut bytes = [0u8; 512];
     let n = decode(&text[2..], &mut bytes);
-    cuts(kind, &bytes[..n]);
+    cuts(letter, &bytes[..n]);
 }
 
-// The place of the line end from `at` on, or the text's end.
-fn line_end(text: &[u8], at: usize) -> usize
-    requires { at ≤ length text.now }
-    ensures { (at ≤ result) × (result ≤ length text.now) }
-{
-    let mut i = at;
-    while i < text.len() {
-        if text[i] == b'\n' {
-            return i;
-        }
-        i += 1;
-    }
-    i
-}
-
+// Each line of the text, the last one with or without its end.
 fn lines(text: &[u8]) {
-    let mut at = 0;
-    while at < text.len() {
-        let end = line_end(text, at);
-        line(&text[at..end]);
-        if end == text.len() {
-            return;
-        }
-        at = end + 1;
+    for part in text.split_inclusive(|b| *b == b'\n') {
+        line(part.strip_suffix(b"\n").unwrap_or(part));
     }
 }
 
