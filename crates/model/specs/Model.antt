@@ -5,11 +5,7 @@ use Rattle.items.specs.Name.{same_bytes}
 use Rattle.grammar.specs.Tables.{dim_at, attr_at, var_at, id_at}
 use Rattle.grammar.specs.declared.tables.Var.{Var}
 use Rattle.grammar.specs.declared.tables.Tables.{Tables}
-
--- where a name stands: its place and the number of its bytes
-pub record Span : Type 0 where
-  pub at : ℕ
-  pub chars : ℕ
+use Rattle.model.specs.declared.names.Span.{Span}
 
 -- two names of the bytes s have the same bytes
 unfoldable pub same_name : List ℕ → Span → Span → Bool

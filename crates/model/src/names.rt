@@ -1,119 +1,86 @@
-// Names of one list: none empty, none twice. The rows are taken out of the tables first: where an
-// index into the tables themselves is not known beforehand, all of them are copied.
-ghost use Rattle.std.specs.Prelude.{◌≡◌, ◌&&◌, ◌+◌, ◌≤◌, ◌<◌, length, get_or, ltb};
-ghost use Rattle.cdf.specs.Below.{all_below};
-ghost use Rattle.model.specs.Model.{Span, same_name, distinct, dim_names, var_names, attr_names};
-ghost use Rattle.grammar.specs.Inner.Within.{Within};
+// Names of one list: none empty, none twice.
+ghost use Rattle.std.specs.Prelude.{◌≡◌, ◌+◌, length, get_or};
+ghost use Rattle.model.specs.Model.{same_name, distinct};
+ghost use Rattle.model.specs.Inner.Rows.{nth_span, new_after};
+ghost use Rattle.model.specs.declared.names.Span.{Span};
 
-use grammar::tables::{Attr, Dim, Tables, Var};
+use grammar::tables::{Attr, Dim, Var};
+
+// Where a name stands: its place and the number of its bytes.
+#[derive(Clone, Copy)]
+pub struct Span {
+    pub at: usize,
+    pub chars: u32,
+}
+
+// A row of tables, which has a name.
+pub(crate) trait Named {
+    ghost span_of: { Self → Span };
+
+    fn span(&self) -> Span
+        ensures { result ≡ span_of self.now };
+}
+
+impl Named for Dim {
+    ghost span_of = { λ d. record { at = d.name; chars = d.chars } };
+
+    fn span(&self) -> Span {
+        Span {
+            at: self.name,
+            chars: self.chars,
+        }
+    }
+}
+
+impl Named for Var {
+    ghost span_of = { λ v. record { at = v.name; chars = v.chars } };
+
+    fn span(&self) -> Span {
+        Span {
+            at: self.name,
+            chars: self.chars,
+        }
+    }
+}
+
+impl Named for Attr {
+    ghost span_of = { λ a. record { at = a.name; chars = a.chars } };
+
+    fn span(&self) -> Span {
+        Span {
+            at: self.name,
+            chars: self.chars as u32,
+        }
+    }
+}
 
 // The byte `i` places after `at`, or 0 past the end.
 fn byte_at(s: &[u8], at: usize, i: usize) -> u8
     ensures { result ≡ get_or s.now (at + i) 0 }
 {
-    let n = s.len();
-    if n <= at {
-        return 0;
-    }
-    if n - at <= i {
-        return 0;
-    }
-    s[at + i]
+    let place = at.saturating_add(i);
+    if place < s.len() { s[place] } else { 0 }
 }
 
 // Whether two names have the same bytes.
-fn same_name(s: &[u8], a: usize, achars: u32, b: usize, bchars: u32) -> bool
-    ensures { result ≡ same_name s.now (record { at = a; chars = achars }) (record { at = b; chars = bchars }) }
+fn same_name(s: &[u8], a: Span, b: Span) -> bool
+    ensures { result ≡ same_name s.now a b }
 {
-    if achars != bchars {
-        return false;
-    }
-    let chars = achars as usize;
-    let mut i = 0;
-    while i < chars {
-        if byte_at(s, a, i) != byte_at(s, b, i) {
-            return false;
-        }
-        i += 1;
-    }
-    true
+    a.chars == b.chars && (0..a.chars as usize).all(|i| byte_at(s, a.at, i) == byte_at(s, b.at, i))
 }
 
-// Whether no dimension's name is empty or stands before.
-pub(crate) fn dim_names_hold(s: &[u8], t: Tables) -> bool
-    requires { t.ndims ≤ 32 }
-    ensures { result ≡ distinct s.now (dim_names t) t.ndims }
+// Whether a name is not empty and none of the rows before it has it.
+fn is_new<R: Named>(s: &[u8], before: &[R], name: Span) -> bool
+    ensures { result ≡ new_after s.now R.span_of before.now name }
 {
-    let rows = t.dims;
-    let mut i = 0;
-    while i < t.ndims {
-        let a = rows[i];
-        if a.chars == 0 {
-            return false;
-        }
-        let mut j = 0;
-        while j < i {
-            let b = rows[j];
-            if same_name(s, b.name, b.chars, a.name, a.chars) {
-                return false;
-            }
-            j += 1;
-        }
-        i += 1;
-    }
-    true
+    0 < name.chars && !before.iter().any(|row| same_name(s, row.span(), name))
 }
 
-// Whether no variable's name is empty or stands before.
-pub(crate) fn var_names_hold(s: &[u8], t: Tables) -> bool
-    requires { t.nvars ≤ 64 }
-    ensures { result ≡ distinct s.now (var_names t) t.nvars }
+// Whether no row's name is empty or stands before.
+pub(crate) fn distinct<R: Named>(s: &[u8], rows: &[R]) -> bool
+    ensures { result ≡ distinct s.now (nth_span R.span_of rows.now) (length rows.now) }
 {
-    let rows = t.vars;
-    let mut i = 0;
-    while i < t.nvars {
-        let a = rows[i];
-        if a.chars == 0 {
-            return false;
-        }
-        let mut j = 0;
-        while j < i {
-            let b = rows[j];
-            if same_name(s, b.name, b.chars, a.name, a.chars) {
-                return false;
-            }
-            j += 1;
-        }
-        i += 1;
-    }
-    true
-}
-
-// Whether no name of the `n` attributes from `first` on is empty or stands before.
-pub(crate) fn attr_names_hold(s: &[u8], t: Tables, first: usize, n: usize) -> bool
-    requires { first + n ≤ 128 }
-    ensures { result ≡ distinct s.now (attr_names t first) n }
-{
-    // an empty list is not worth a copy of the rows
-    if n == 0 {
-        return true;
-    }
-    let rows = t.attrs;
-    let mut i = 0;
-    while i < n {
-        let a = rows[first + i];
-        if a.chars == 0 {
-            return false;
-        }
-        let mut j = 0;
-        while j < i {
-            let b = rows[first + j];
-            if same_name(s, b.name, b.chars as u32, a.name, a.chars as u32) {
-                return false;
-            }
-            j += 1;
-        }
-        i += 1;
-    }
-    true
+    rows.iter()
+        .enumerate()
+        .all(|(i, row)| is_new(s, &rows[..i], row.span()))
 }

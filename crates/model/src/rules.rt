@@ -1,123 +1,83 @@
 // The model rules, as the tables of a header are judged by them.
 ghost use Rattle.std.specs.Prelude.{◌≡◌, ◌≤◌};
-ghost use Rattle.model.specs.Model.{names_hold, one_unlimited, id_holds, ids_hold, model_holds};
-ghost use Rattle.model.specs.Inner.Unlimited.{unlimited};
+ghost use Rattle.model.specs.Model.{names_hold, one_unlimited, ids_hold, model_holds};
+ghost use Rattle.model.specs.Inner.Rows.{row_ids_hold};
 ghost use Rattle.grammar.specs.Inner.Within.{Within, Shaped};
 
-use crate::names::{attr_names_hold, dim_names_hold, var_names_hold};
-use grammar::tables::{Attr, Dim, Tables, Var};
+use crate::names::distinct;
+use grammar::tables::{Dim, Tables, Var};
 
-fn names_hold(s: &[u8], t: Tables) -> bool
-    requires { Within t }
-    ensures { result ≡ names_hold s.now t }
+fn names_hold(s: &[u8], t: &Tables) -> bool
+    requires { Within t.now }
+    ensures { result ≡ names_hold s.now t.now }
 {
-    if !dim_names_hold(s, t) {
+    if !distinct(s, &t.dims[..t.ndims]) {
         return false;
     }
-    if !var_names_hold(s, t) {
+    if !distinct(s, &t.vars[..t.nvars]) {
         return false;
     }
-    let globals = t.globals;
-    if !attr_names_hold(s, t, 0, globals) {
+    if !distinct(s, &t.attrs[..t.globals]) {
         return false;
     }
-    let vars = t.vars;
-    let mut i = 0;
-    while i < t.nvars {
-        let v = vars[i];
+    for v in &t.vars[..t.nvars] {
         let first = v.first as usize;
-        let n = v.attrs as usize;
-        if !attr_names_hold(s, t, first, n) {
+        if !distinct(s, &t.attrs[first..first + v.attrs as usize]) {
             return false;
         }
-        i += 1;
     }
     true
 }
 
-// The number of the unlimited dimension, or the number of dimensions where there is none.
-pub fn unlimited(t: Tables) -> usize
-    requires { t.ndims ≤ 32 }
-    ensures { result ≡ unlimited t }
+fn one_unlimited(t: &Tables) -> bool
+    requires { t.now.ndims ≤ 32 }
+    ensures { result ≡ one_unlimited t.now }
 {
-    let dims = t.dims;
-    let mut i = 0;
-    while i < t.ndims {
-        let d = dims[i];
-        if d.length == 0 {
-            return i;
-        }
-        i += 1;
-    }
-    i
+    let unlimited = t
+        .dims
+        .iter()
+        .take(t.ndims)
+        .filter(|d| d.length == 0)
+        .count();
+    unlimited <= 1
 }
 
-fn one_unlimited(t: Tables) -> bool
-    requires { t.ndims ≤ 32 }
-    ensures { result ≡ one_unlimited t }
+// Whether each id of a variable names one of the dimensions, and the unlimited one stands only first.
+fn row_ids_hold(dims: &[Dim], v: &Var) -> bool
+    requires { v.now.rank ≤ 8 }
+    ensures { result ≡ row_ids_hold dims.now v.now }
 {
-    let only = unlimited(t);
-    let dims = t.dims;
-    let mut i = 0;
-    while i < t.ndims {
-        let d = dims[i];
-        if d.length == 0 {
-            if i != only {
-                return false;
-            }
+    for (k, id) in v.ids[..v.rank as usize].iter().enumerate() {
+        let Some(d) = dims.get(*id as usize) else {
+            return false;
+        };
+        let later = 0 < k;
+        if later && d.length == 0 {
+            return false;
         }
-        i += 1;
     }
     true
-}
-
-// An id as an index.
-fn index(id: u32) -> usize
-    ensures { result ≡ id }
-{
-    id as usize
 }
 
 // Whether every id names a dimension, and the unlimited dimension stands only first.
-pub fn ids_hold(t: Tables) -> bool
-    requires { Shaped t }
-    ensures { result ≡ ids_hold t }
+pub fn ids_hold(t: &Tables) -> bool
+    requires { Shaped t.now }
+    ensures { result ≡ ids_hold t.now }
 {
-    let dims = t.dims;
-    let vars = t.vars;
-    let mut i = 0;
-    while i < t.nvars {
-        let v = vars[i];
-        let rank = v.rank as usize;
-        let mut k = 0;
-        while k < rank {
-            let id = index(v.ids[k]);
-            if t.ndims <= id {
-                return false;
-            }
-            let d = dims[id];
-            if 0 < k {
-                if d.length == 0 {
-                    return false;
-                }
-            }
-            k += 1;
+    let dims = &t.dims[..t.ndims];
+    for v in &t.vars[..t.nvars] {
+        if !row_ids_hold(dims, v) {
+            return false;
         }
-        i += 1;
     }
     true
 }
 
 // Rule 11.
-pub fn model_holds(s: &[u8], t: Tables) -> bool
-    requires { Within t }
-    ensures { result ≡ model_holds s.now t }
+#[tactic(auto, unfolding(crate::specs::Model::model_holds))]
+pub fn model_holds(s: &[u8], t: &Tables) -> bool
+    requires { Within t.now }
+    ensures { result ≡ model_holds s.now t.now }
 {
-    if !names_hold(s, t) {
-        return false;
-    }
-    if !one_unlimited(t) {
-        return false;
-    }
-    ids_hold(t)
+    names_hold(s, t) && one_unlimited(t) && ids_hold(t)
 }

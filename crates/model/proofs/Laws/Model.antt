@@ -1,92 +1,106 @@
 -- Laws of the model rules.
 use Prim.Native.Nat.{ℕ, ◌+◌, ◌≤◌, ◌<◌}
 use native.Mathlib.Omega.{arith}
-use mathlib.Core.Path.{◌≡◌, sym, ap, subst, ◌∙◌}
+use mathlib.Core.Path.{◌≡◌, refl, sym, ap, ◌∙◌}
 use mathlib.Core.Logic.{⊎_elim}
-use native.Mathlib.Nat.{eq-or-lt_of_le}
 use mathlib.Core.Bool.{Bool, true, false, ◌&&◌, not, and-false, or-true}
-use mathlib.Core.List.{List}
-use lib.ListN.{get_or}
-use lib.Dec.{ltb, eqb}
+use mathlib.Core.List.{List, [], ◌∷◌}
+use lib.ListN.{get_or, length, take, drop}
+use lib.Dec.{ltb, leb, eqb}
+use native.Mathlib.Nat.{zero-add}
+use Rattle.std.specs.List.{list_all, count_by, enumerate_from}
+use Rattle.std.proofs.lemmas.List.{get_or-map, get_or-take, get_or-drop, length-take-le, length-drop}
+use Rattle.std.proofs.lemmas.List.FromFn.{length-enumerate_from, get_or-enumerate_from}
+use Rattle.model.proofs.Laws.Rows.{all-same, any-same, any-rows, all-list, one-counted}
+use Rattle.model.specs.Inner.Rows.{nth_span, new_after, id_among, row_ids_hold}
 use borrow.Author.Tests.{lt-ltb, le-ltb, eq-eqb, ne_eqb}
 use Rattle.cdf.specs.Below.{all_below, any_below}
 use Rattle.items.specs.Name.{same_bytes}
-use Rattle.cdf.proofs.Laws.Below.{order, both, all_hold, one-fails, none-holds, some_holds, first-none, first-is, first_some, first-before}
-use Rattle.grammar.specs.Tables.{dim_at, var_at, id_at}
-use Rattle.model.specs.Model.{Span, same_name, is_new, distinct, dim_names, var_names, attr_names, names_hold, is_unlimited, one_unlimited, id_holds, ids_hold, model_holds}
-use Rattle.model.specs.Inner.Unlimited.{unlimited}
+use Rattle.cdf.proofs.Laws.Below.{order, both, all_hold, one-fails}
+use Rattle.grammar.specs.Tables.{no_dim, var_at, id_at}
+use Rattle.model.specs.Model.{same_name, is_new, distinct, dim_names, var_names, attr_names, names_hold, one_unlimited, id_holds, ids_hold, model_holds}
+use Rattle.model.specs.declared.names.Span.{Span}
+use Rattle.grammar.specs.declared.tables.Dim.{Dim}
 use Rattle.grammar.specs.declared.tables.Var.{Var}
 use Rattle.grammar.specs.declared.tables.Tables.{Tables}
 
 module _ (s : List ℕ) (a b : Span) where
-  pub same-all : a.chars ≡ b.chars → ((i : ℕ) → i < a.chars → get_or s (a.at + i) 0 ≡ get_or s (b.at + i) 0) → true ≡ same_name s a b
+  pub same-bytes : a.chars ≡ b.chars → all_below a.chars (λ i. eqb (get_or s (a.at + i) 0) (get_or s (b.at + i) 0)) ≡ same_name s a b
   unfolding same_name same_bytes
-  same-all e h = rw (eq-eqb a.chars b.chars e) (sym (all_hold _ a.chars (λ i l. eq-eqb _ _ (h i l))))
+  same-bytes e = rw (eq-eqb a.chars b.chars e)
 
-  pub same_length : (a.chars ≡ b.chars → ⊥) → false ≡ same_name s a b
+  pub same_length : (a.chars ≡ b.chars → ⊥) → eqb a.chars b.chars ≡ same_name s a b
   unfolding same_name
   same_length n = rw (ne_eqb a.chars b.chars n)
 
-  pub same_not : (i : ℕ) → i < a.chars → (get_or s (a.at + i) 0 ≡ get_or s (b.at + i) 0 → ⊥) → false ≡ same_name s a b
-  unfolding same_name same_bytes
-  same_not i l n = rw (one-fails _ a.chars i l (ne_eqb (get_or s (a.at + i) 0) (get_or s (b.at + i) 0) n)) (sym (and-false (eqb a.chars b.chars)))
+-- whether a row's name is new, by the rows before it
+module _ {X : Type 0} (s : List ℕ) (span : X → Span) (rows : List X) where
+  abbrev pub IsNew : ℕ × X → Bool
+  IsNew p = new_after s span (take p.0 rows) (span p.1)
 
-module _ (s : List ℕ) (names : ℕ → Span) where
-  pub distinct-twice : (n i j : ℕ) → i < n → j < i → same_name s (names j) (names i) ≡ true → false ≡ distinct s names n
+  nth : (i : ℕ) (d : X) → i < length rows → nth_span span rows i ≡ span (get_or rows i d)
+  nth i d l = get_or-map span rows i d _ l
+
+  new_at : (i : ℕ) (d : X) → i < length rows → IsNew (get_or (enumerate_from 0 rows) i (0, d)) ≡ is_new s (nth_span span rows) i
+  unfolding is_new new_after
+  new_at i d l =
+      let x = get_or rows i d in
+      ap IsNew (get_or-enumerate_from 0 rows i (0, d) l)
+      ∙ ap (λ (j : ℕ). IsNew (j, x)) (zero-add i)
+      ∙ ap
+      (λ (b : Bool). ltb 0 (span x).chars && not b)
+      (any-rows (λ r. same_name s (span r) (span x)) rows d i (omega arith)
+      ∙ any-same _ (λ j. same_name s (nth_span span rows j) (span x)) i (λ j m. ap (λ (n : Span). same_name s n (span x)) (sym (nth j d (omega arith)))))
+      ∙ ap (λ (n : Span). ltb 0 n.chars && not (any_below i (λ j. same_name s (nth_span span rows j) n))) (sym (nth i d l))
+
+  pub distinct-by : list_all IsNew (enumerate_from 0 rows) ≡ distinct s (nth_span span rows) (length rows)
+  unfolding distinct all_below
+  distinct-by = by rows refl
+    where
+      by : (r : List X) → rows ≡ r → list_all IsNew (enumerate_from 0 rows) ≡ all_below (length rows) (is_new s (nth_span span rows))
+      by [] e =
+          let none : true ≡ all_below (length rows) (is_new s (nth_span span rows)) = sym (ap (λ (r : List X). all_below (length r) (is_new s (nth_span span rows))) e) in
+          ap (λ (r : List X). list_all IsNew (enumerate_from 0 r)) e ∙ none
+      by (x ∷ xs) e =
+          all-list IsNew (enumerate_from 0 rows) (0, x)
+          ∙ ap (λ (n : ℕ). all_below n (λ i. IsNew (get_or (enumerate_from 0 rows) i (0, x)))) (length-enumerate_from 0 rows)
+          ∙ all-same _ _ (length rows) (λ i l. new_at i x l)
+
+module _ (s : List ℕ) (f g : ℕ → Span) where
+  -- names that agree below n
+  pub distinct-same : (n : ℕ) → ((i : ℕ) → i < n → f i ≡ g i) → distinct s f n ≡ distinct s g n
   unfolding distinct is_new
-  distinct-twice n i j l m e =
-      sym (one-fails (is_new s names) n i l (rw (some_holds (λ k. same_name s (names k) (names i)) i j m e) (and-false (ltb 0 (names i).chars))))
+  distinct-same n h =
+      all-same _ _ n
+      (λ i l.
+      ap (λ (x : Span). ltb 0 x.chars && not (any_below i (λ j. same_name s (f j) x))) (h i l)
+      ∙ ap (λ (b : Bool). ltb 0 (g i).chars && not b) (any-same _ _ i (λ j m. ap (λ (x : Span). same_name s x (g i)) (h j (omega arith)))))
 
-  pub new-if : (i : ℕ) → ((names i).chars ≡ 0 → ⊥) → ((j : ℕ) → j < i → same_name s (names j) (names i) ≡ false) → is_new s names i ≡ true
-  unfolding is_new
-  new-if i n h = rw (lt-ltb 0 (names i).chars (omega arith), none-holds (λ j. same_name s (names j) (names i)) i h)
+-- the names of n rows of a list: the first, and those from `first` on
+module _ {X : Type 0} (s : List ℕ) (span : X → Span) (rows : List X) (d : X) where
+  pub distinct_first : (n : ℕ) → n ≤ length rows → distinct s (nth_span span (take n rows)) (length (take n rows)) ≡ distinct s (λ i. span (get_or rows i d)) n
+  distinct_first n h =
+      let e = length-take-le n rows h in
+      ap (distinct s (nth_span span (take n rows))) e
+      ∙ distinct-same s _ _ n (λ i l. get_or-map span (take n rows) i d _ (omega arith) ∙ ap span (get_or-take n rows i d l))
 
-  pub distinct-all : (n : ℕ) → ((i : ℕ) → i < n → is_new s names i ≡ true) → true ≡ distinct s names n
-  unfolding distinct
-  distinct-all n h = sym (all_hold (is_new s names) n h)
+  pub distinct_from : (first n : ℕ) {m : ℕ} → m ≡ n → first + n ≤ length rows → distinct s (nth_span span (take m (drop first rows))) (length (take m (drop first rows))) ≡ distinct s (λ i. span (get_or rows (first + i) d)) n
+  distinct_from first n {m} same h =
+      let e : length (take m (drop first rows)) ≡ n = length-take-le m (drop first rows) (omega (arith, length-drop first rows)) ∙ same in
+      ap (distinct s (nth_span span (take m (drop first rows)))) e
+      ∙ distinct-same s _ _ n (λ i l. get_or-map span (take m (drop first rows)) i d _ (omega arith) ∙ ap span (get_or-take m (drop first rows) i d (omega arith) ∙ get_or-drop first rows i d))
 
-  pub distinct-empty : (n i : ℕ) → i < n → (names i).chars ≡ 0 → false ≡ distinct s names n
-  unfolding distinct is_new
-  distinct-empty n i l e = sym (one-fails (is_new s names) n i l (rw (le-ltb 0 (names i).chars (omega arith))))
-
-module _ (t : Tables) where
-  pub unlimited-none : ((i : ℕ) → i < t.ndims → (dim_at t i).length ≡ 0 → ⊥) → t.ndims ≡ unlimited t
-  unfolding unlimited
-  unlimited-none h = sym (first-none _ t.ndims (λ i l. ne_eqb (dim_at t i).length 0 (h i l)))
-
-  pub unlimited-is : (i : ℕ) → i < t.ndims → ((k : ℕ) → k < i → (dim_at t k).length ≡ 0 → ⊥) → (dim_at t i).length ≡ 0 → i ≡ unlimited t
-  unfolding unlimited
-  unlimited-is i l h e = sym (first-is _ t.ndims i l (λ k m. ne_eqb (dim_at t k).length 0 (h k m)) (eq-eqb (dim_at t i).length 0 e))
-
-  -- what `one_unlimited` asks of a dimension
-  abbrev pub Single : ℕ → Type 0
-  Single i = not (is_unlimited t i && any_below i (is_unlimited t)) ≡ true
-
-  pub single-fixed : (i : ℕ) → ((dim_at t i).length ≡ 0 → ⊥) → Single i
-  single-fixed i n = rw (ne_eqb (dim_at t i).length 0 n)
-
-  pub single-only : (i : ℕ) → i ≡ unlimited t → Single i
-  unfolding unlimited
-  single-only i e =
-      rw (none-holds (is_unlimited t) i (λ k l. first-before (is_unlimited t) t.ndims k (subst (λ (n : ℕ). k < n) e l))) (ap not (and-false (is_unlimited t i)))
-
-  pub one_holds : ((i : ℕ) → i < t.ndims → Single i) → true ≡ one_unlimited t
-  unfolding one_unlimited
-  one_holds h = sym (all_hold _ t.ndims h)
-
-  pub one-breaks : (i : ℕ) → i < t.ndims → (dim_at t i).length ≡ 0 → (i ≡ unlimited t → ⊥) → false ≡ one_unlimited t
-  unfolding one_unlimited unlimited
-  one-breaks i l e n =
-      let is = eq-eqb (dim_at t i).length 0 e in
-      let f = first_some (is_unlimited t) t.ndims (some_holds (is_unlimited t) t.ndims i l is) in
-      let later : unlimited t < i → false ≡ one_unlimited t = λ h. sym (one-fails (λ k. not (is_unlimited t k && any_below k (is_unlimited t))) t.ndims i l (rw (is, some_holds (is_unlimited t) i (unlimited t) h f.1))) in
-      ⊎_elim
-      (λ (h : unlimited t ≤ i). ⊎_elim (λ (q : unlimited t ≡ i). absurd (n (sym q))) later (eq-or-lt_of_le h))
-      (λ (h : i < unlimited t). let z : ◌≡◌ {A = Bool} true false = sym is ∙ first-before (is_unlimited t) t.ndims i h in cc)
-      (order (unlimited t) i)
+-- at most one dimension is unlimited
+pub one_unlimited-by : (t : Tables) → t.ndims ≤ length t.dims → leb (count_by (λ d. eqb d.length 0) (take t.ndims t.dims)) 1 ≡ one_unlimited t
+unfolding one_unlimited
+one_unlimited-by t h = one-counted (λ d. eqb d.length 0) t.dims no_dim t.ndims h
 
 -- the names of the tables, by their lists
 module _ (s : List ℕ) (t : Tables) where
+  -- the names of a variable's attributes
+  abbrev pub Own : ℕ → Bool
+  Own i = distinct s (attr_names t (var_at t i).first) (var_at t i).attrs
+
   pub names-dims : distinct s (dim_names t) t.ndims ≡ false → false ≡ names_hold s t
   unfolding names_hold
   names-dims e = rw e
@@ -100,10 +114,6 @@ module _ (s : List ℕ) (t : Tables) where
     unfolding names_hold
     names-globals e = rw (dims, vars, e)
 
-    -- the names of a variable's attributes
-    abbrev pub Own : ℕ → Bool
-    Own i = distinct s (attr_names t (var_at t i).first) (var_at t i).attrs
-
     module _ (globals : distinct s (attr_names t 0) t.globals ≡ true) where
       pub names-own : (i : ℕ) → i < t.nvars → Own i ≡ false → false ≡ names_hold s t
       unfolding names_hold
@@ -113,35 +123,41 @@ module _ (s : List ℕ) (t : Tables) where
       unfolding names_hold
       names-all h = rw (dims, vars, globals) (sym (all_hold Own t.nvars h))
 
--- ids: one that holds, one too large, the unlimited dimension not first
-module _ (t : Tables) (v : Var) (k : ℕ) where
-  pub id-first : id_at v k < t.ndims → k ≡ 0 → id_holds t v k ≡ true
+-- an id among the dimensions ds: one that holds, one too large, the unlimited dimension not first
+module _ (ds : List Dim) (v : Var) (k : ℕ) where
+  pub id-first : id_at v k < length ds → k ≡ 0 → id_among ds v k ≡ true
+  id-first h e = rw (lt-ltb (id_at v k) (length ds) h, eq-eqb k 0 e)
+
+  pub id-fixed : id_at v k < length ds → ((get_or ds (id_at v k) no_dim).length ≡ 0 → ⊥) → id_among ds v k ≡ true
+  id-fixed h n = rw (lt-ltb (id_at v k) (length ds) h, ne_eqb (get_or ds (id_at v k) no_dim).length 0 n) (or-true (eqb k 0))
+
+  pub id-large : length ds ≤ id_at v k → id_among ds v k ≡ false
+  id-large h = rw (le-ltb (id_at v k) (length ds) h)
+
+  pub id-later : 0 < k → (get_or ds (id_at v k) no_dim).length ≡ 0 → id_among ds v k ≡ false
+  id-later p e = rw (ne_eqb k 0 (λ q. omega arith), eq-eqb (get_or ds (id_at v k) no_dim).length 0 e) (and-false (ltb (id_at v k) (length ds)))
+
+module _ (t : Tables) (dims : t.ndims ≤ length t.dims) where
+  abbrev pub rows : List Dim
+  rows = take t.ndims t.dims
+
+  id-same : (v : Var) (k : ℕ) → id_among rows v k ≡ id_holds t v k
   unfolding id_holds
-  id-first h e = rw (lt-ltb (id_at v k) t.ndims h, eq-eqb k 0 e)
+  id-same v k =
+      let e = length-take-le t.ndims t.dims dims in
+      ⊎_elim
+      (λ (h : t.ndims ≤ id_at v k). id-large rows v k (omega arith) ∙ sym (rw (le-ltb (id_at v k) t.ndims h)))
+      (λ (h : id_at v k < t.ndims). rw (e, get_or-take t.ndims t.dims (id_at v k) no_dim h))
+      (order t.ndims (id_at v k))
 
-  pub id-fixed : id_at v k < t.ndims → ((dim_at t (id_at v k)).length ≡ 0 → ⊥) → id_holds t v k ≡ true
-  unfolding id_holds
-  id-fixed h n = rw (lt-ltb (id_at v k) t.ndims h, ne_eqb (dim_at t (id_at v k)).length 0 n) (or-true (eqb k 0))
+  -- the ids of a variable, and those of all
+  pub ids-by : ((i : ℕ) → i < t.nvars → row_ids_hold rows (var_at t i) ≡ true) → true ≡ ids_hold t
+  unfolding ids_hold row_ids_hold
+  ids-by h = sym (all_hold _ t.nvars (λ i l. sym (all-same _ _ (var_at t i).rank (λ k m. id-same (var_at t i) k)) ∙ h i l))
 
-  pub id-large : t.ndims ≤ id_at v k → id_holds t v k ≡ false
-  unfolding id_holds
-  id-large h = rw (le-ltb (id_at v k) t.ndims h)
-
-  pub id-later : id_at v k < t.ndims → 0 < k → (dim_at t (id_at v k)).length ≡ 0 → id_holds t v k ≡ false
-  unfolding id_holds
-  id-later h p e = rw (lt-ltb (id_at v k) t.ndims h, ne_eqb k 0 (λ q. omega arith), eq-eqb (dim_at t (id_at v k)).length 0 e)
-
-module _ (t : Tables) where
-  pub row-ids : (i : ℕ) → ((k : ℕ) → k < (var_at t i).rank → id_holds t (var_at t i) k ≡ true) → all_below (var_at t i).rank (id_holds t (var_at t i)) ≡ true
-  row-ids i h = all_hold _ _ h
-
-  pub ids_all : ((i : ℕ) → i < t.nvars → all_below (var_at t i).rank (id_holds t (var_at t i)) ≡ true) → true ≡ ids_hold t
-  unfolding ids_hold
-  ids_all h = sym (all_hold _ t.nvars h)
-
-  pub ids-not : (i k : ℕ) → i < t.nvars → k < (var_at t i).rank → id_holds t (var_at t i) k ≡ false → false ≡ ids_hold t
-  unfolding ids_hold
-  ids-not i k l m e = sym (one-fails _ t.nvars i l (one-fails (id_holds t (var_at t i)) (var_at t i).rank k m e))
+  pub ids-not : (i : ℕ) → i < t.nvars → row_ids_hold rows (var_at t i) ≡ false → false ≡ ids_hold t
+  unfolding ids_hold row_ids_hold
+  ids-not i l e = sym (one-fails _ t.nvars i l (sym (all-same _ _ (var_at t i).rank (λ k m. id-same (var_at t i) k)) ∙ e))
 
 -- rule 11 by its parts
 module _ (s : List ℕ) (t : Tables) where

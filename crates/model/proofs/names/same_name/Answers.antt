@@ -1,20 +1,19 @@
-use Rattle.model.proofs.Laws.Model.{same-all, same_length, same_not}
-use borrow.Author.Count.{below_none, below_more}
-use mathlib.Core.Path.{sym, ◌∙◌}
-use native.Mathlib.Omega.{arith}
+use Rattle.std.proofs.Common.{rules, eqb, get_or, ◌+◌, ◌∙◌, arith}
+use borrow.Author.Tests.{tests}
+use Rattle.std.proofs.lemmas.Iterator.{YieldsList-from_range}
+use Rattle.std.proofs.lemmas.Iterator.Search.{all_from_yields_List}
+use Rattle.model.proofs.Laws.Rows.{all-range}
+use Rattle.model.proofs.Laws.Model.{same-bytes, same_length}
 use Rattle.model.proofs.names.same_name.Goals as goal
 
-pub returns-then-achars-bchars : goal.returns-then-achars-bchars
-returns-then-achars-bchars c = same_length _ _ _ c.if-achars-bchars.true
+pub returns-then-a-b : goal.returns-then-a-b
+returns-then-a-b c =
+    let s = c.args.s.now in
+    let a = c.args.a in
+    let b = c.args.b in
+    all_from_yields_List (λ i. eqb (get_or s (a.at + i) 0) (get_or s (b.at + i) 0)) _ _ _ c.all.ensures.ran (YieldsList-from_range 0 a.chars a.chars (cc) (omega arith)) (λ x r q k. search (rules, tests))
+    ∙ all-range _ _
+    ∙ same-bytes s a b c.if-a-b.true
 
-pub loop-i-init : goal.loop-i-init
-loop-i-init c = (omega arith, c.if-achars-bchars.false, below_none _)
-
-pub returns-then-byte_at : goal.returns-then-byte_at
-returns-then-byte_at c = same_not _ _ _ _ c.loop-i-test.true (λ e. c.if-byte_at.true (c.byte_at.ensures ∙ e ∙ sym c.byte_at-in-loop-i.ensures))
-
-pub loop-i-preserved : goal.loop-i-preserved
-loop-i-preserved c = (omega arith, c.loop-i.invariant.1, below_more _ _ c.loop-i.invariant.2 (sym c.byte_at.ensures ∙ c.if-byte_at.false ∙ c.byte_at-in-loop-i.ensures))
-
-pub returns : goal.returns
-returns c = same-all _ _ _ c.loop-i.invariant.1 (λ k l. c.loop-i.invariant.2 k (omega arith))
+pub returns-else-a-b : goal.returns-else-a-b
+returns-else-a-b c = same_length c.args.s.now c.args.a c.args.b c.if-a-b.false

@@ -1,12 +1,13 @@
-use Prim.Native.Nat.{ℕ, ◌-◌, ◌≤◌, ◌<◌}
-use mathlib.Core.Path.{◌≡◌}
-use mathlib.Core.Bool.{true}
+use Rattle.std.proofs.Common.{◌≡◌, ℕ, ◌<◌, true}
 use Rattle.model.specs.Model.{distinct, dim_names, var_names, attr_names}
-use Rattle.grammar.specs.Tables.{var_at}
+use Rattle.model.proofs.Laws.Model.{Own}
 use Rattle.model.proofs.rules.names_hold.Given as goal
 
-abbrev pub invariant-loop-i : goal.invariant-loop-i
-invariant-loop-i l = (l.i ≤ l.t.nvars) × (distinct l.s (dim_names l.t) l.t.ndims ≡ true) × (distinct l.s (var_names l.t) l.t.nvars ≡ true) × (distinct l.s (attr_names l.t 0) l.t.globals ≡ true) × ((k : ℕ) → k < l.i → distinct l.s (attr_names l.t (var_at l.t k).first) (var_at l.t k).attrs ≡ true)
-
-abbrev pub decreases-loop-i : goal.decreases-loop-i
-decreases-loop-i l = l.t.nvars - l.i
+abbrev pub invariant-loop-v : goal.invariant-loop-v
+invariant-loop-v l =
+    record {
+      dims : distinct l.s (dim_names l.t) l.t.ndims ≡ true;
+      vars : distinct l.s (var_names l.t) l.t.nvars ≡ true;
+      globals : distinct l.s (attr_names l.t 0) l.t.globals ≡ true;
+      own : (i : ℕ) → i < l.v-index → Own l.s l.t i ≡ true;
+    }

@@ -1,18 +1,17 @@
-use native.Mathlib.Omega.{arith}
-use mathlib.Core.Path.{sym, ◌∙◌}
-use borrow.Author.Count.{below_none, below_more}
-use Rattle.model.proofs.Laws.Model.{single-fixed, single-only, one_holds, one-breaks}
+use Rattle.std.proofs.Common.{rules, ◌∙◌, ap, leb, eqb, take, arith}
+use borrow.Author.Tests.{tests}
+use Rattle.std.proofs.lemmas.Iterator.{YieldsList-from_slice, YieldsList-from_take}
+use Rattle.std.proofs.lemmas.Iterator.Consumers.{YieldsList-from_filter, count_from_yields_List}
+use Rattle.std.proofs.lemmas.List.Sums.{length-filter}
+use Rattle.grammar.specs.declared.tables.Dim.{Dim}
+use Rattle.model.proofs.Laws.Model.{one_unlimited-by}
 use Rattle.model.proofs.rules.one_unlimited.Goals as goal
-use Rattle.model.proofs.rules.one_unlimited.Goals.{then-d-eq0+else-i-only, else-d-eq0}
-
-pub loop-i-init : goal.loop-i-init
-loop-i-init c = (omega arith, c.unlimited-only.ensures, below_none _)
-
-pub returns-then-i-only : goal.returns-then-i-only
-returns-then-i-only c = one-breaks _ _ c.loop-i-test.true c.if-d-eq0.true (λ e. c.if-i-only.true (e ∙ sym c.loop-i.invariant.1))
-
-pub loop-i-preserved : goal.loop-i-preserved
-loop-i-preserved c = let t = c.args.t in let l = c.loop-i in (omega arith, l.invariant.1, below_more _ _ l.invariant.2 (elim c.if-d-eq0.branch [ then-d-eq0+else-i-only w ↦ single-only t l.i (w.if-i-only.false ∙ l.invariant.1) | else-d-eq0 w ↦ single-fixed t l.i w.if-d-eq0.false ]))
 
 pub returns : goal.returns
-returns c = one_holds _ (λ k l. c.loop-i.invariant.2 k (omega arith))
+returns c =
+    let t = c.args.t.now in
+    ap (λ m. leb m 1)
+    (count_from_yields_List c.filter.result _ c.count-unlimited.ensures.ran
+    (YieldsList-from_filter _ (λ d. eqb d.length 0) (YieldsList-from_take t.ndims (YieldsList-from_slice t.dims cc) cc) c.filter.ensures.closure (λ x r q k. search (rules, tests)))
+    ∙ length-filter (λ (d : Dim). eqb d.length 0) (take t.ndims t.dims))
+    ∙ one_unlimited-by t (omega arith)
