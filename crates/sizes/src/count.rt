@@ -1,72 +1,68 @@
 // The record count.
-ghost use Rattle.std.specs.Prelude.{◌≡◌, true, ℕ, ◌<◌};
+#![tactic(auto, unfolding(cdf::specs::Step::test, crate::specs::Inner::Sizes::divided))]
+
+ghost use Rattle.std.specs.Prelude.{◌≡◌, ℕ, ◌<◌, ◌≤◌};
+ghost use Rattle.cdf.specs.Refusals.{of_result};
 ghost use Rattle.cdf.specs.Step.{Step};
-ghost use Rattle.model.specs.Model.{ids_hold};
-ghost use Rattle.sizes.specs.Count.{count_or, record_count};
+ghost use Rattle.sizes.specs.Count.{has_unlimited, count_or, record_count};
 ghost use Rattle.sizes.specs.Records.{record_size};
-ghost use Rattle.sizes.specs.Inner.Sizes.{divided, of_counted, of_known, sizes_of};
-ghost use Rattle.grammar.specs.Inner.Within.{Shaped};
+ghost use Rattle.sizes.specs.Inner.Sizes.{divided, or_given, sizes_of};
 
 use crate::records::Sizes;
+use cdf::refusal::Refusal;
 use cdf::word::INDETERMINATE;
 use grammar::tables::Tables;
-use model::rules::unlimited;
+use model::checked::Checked;
 
-#[derive(Clone, Copy)]
-pub enum Counted {
-    Records(u64),
-    Refused(u8),
-}
-
-// A count that does not follow from the file's size, or that it is open.
-#[derive(Clone, Copy)]
-pub enum Known {
-    Count(u64),
-    Open,
-}
-
-// The count of tables whose record size is `step`, where it is given; with no record variable the record size is 0.
-pub fn given(t: Tables, step: u64) -> Known
-    requires { Shaped t × (ids_hold t ≡ true) × (step ≡ record_size t) }
-    ensures { ((x : Step ℕ) → of_known result x ≡ count_or t x) × (result ≡ Known.Open → 0 < step) }
+// Whether there is an unlimited dimension.
+fn has_unlimited(t: &Tables) -> bool
+    requires { t.now.ndims ≤ 32 }
+    ensures { result ≡ has_unlimited t.now }
 {
-    if t.ndims <= unlimited(t) {
-        return Known::Count(0);
+    t.dims.iter().take(t.ndims).any(|d| d.length == 0)
+}
+
+// The count of tables whose record size is `step`, but where it follows from the file's size; with no record variable the record size is 0.
+pub fn given(t: Checked, step: u64) -> Option<u64>
+    requires { step ≡ record_size t.tables.now }
+    ensures { ((x : Step ℕ) → or_given result x ≡ count_or t.entry.tables.now x) × (result ≡ None → 0 < step) }
+{
+    if !has_unlimited(t.tables) {
+        return Some(0);
     }
-    let word = t.word;
+    let word = t.tables.word;
     if word != INDETERMINATE {
-        return Known::Count(word);
+        return Some(word);
     }
     if step == 0 {
-        return Known::Count(0);
+        return Some(0);
     }
-    Known::Open
+    None
 }
 
 // The count of an open file: the records of `step` bytes from the first begin up to the size.
-fn divided(size: u64, first: u64, step: u64) -> Counted
+fn divided(size: u64, first: u64, step: u64) -> Result<u64, Refusal>
     requires { 0 < step }
-    ensures { of_counted result ≡ divided size first step }
+    ensures { of_result result ≡ divided size first step }
 {
     if size < first {
-        return Counted::Refused(14);
+        return Err(Refusal::SizeBelowRecords);
     }
     let rest = size - first;
     if rest % step != 0 {
-        return Counted::Refused(13);
+        return Err(Refusal::Rest);
     }
     let records = rest / step;
-    Counted::Records(records)
+    Ok(records)
 }
 
 // The record count of tables of the sizes `z`.
-pub fn record_count(t: Tables, z: Sizes) -> Counted
-    requires { Shaped t × (ids_hold t ≡ true) × (z ≡ sizes_of t) }
-    ensures { of_counted result ≡ record_count t }
+pub fn record_count(t: Checked, z: Sizes) -> Result<u64, Refusal>
+    requires { z ≡ sizes_of t.tables.now }
+    ensures { of_result result ≡ record_count t.entry.tables.now }
 {
-    let step = z.step;
-    match given(t, step) {
-        Known::Count(n) => Counted::Records(n),
-        Known::Open => divided(t.size, z.first, step),
+    match given(t, z.step) {
+        Some(n) => Ok(n),
+        None => divided(t.tables.size, z.first, z.step),
     }
 }

@@ -1,10 +1,9 @@
 // Chunks, the record size, and where variables end. Sizes are exact up to the limit of rule 12 and
 // stay one above it from there on, so that no product or sum wraps.
-ghost use Rattle.std.specs.Prelude.{◌≡◌, true, ℕ, ◌+◌, ◌*◌, ◌≤◌, ◌<◌, min, max, ltb};
+ghost use Rattle.std.specs.Prelude.{◌≡◌, ℕ, ◌+◌, ◌*◌, ◌≤◌, cond, get_or};
 ghost use Rattle.cdf.specs.Padding.{padding};
 ghost use Rattle.items.specs.Types.{size_of};
-ghost use Rattle.grammar.specs.Tables.{id_at};
-ghost use Rattle.model.specs.Model.{ids_hold};
+ghost use Rattle.grammar.specs.Tables.{no_dim};
 ghost use Rattle.sizes.specs.Records.{is_record, outer, chunk, max_chunk, sizes_hold};
 ghost use Rattle.sizes.specs.Inner.Sizes.{capped, added, still_holds, ends_in, sizes_of};
 ghost use Rattle.grammar.specs.Inner.Within.{Shaped};
@@ -12,74 +11,63 @@ ghost use Rattle.grammar.specs.Inner.Within.{Shaped};
 use cdf::padding::compute_padding_size;
 use grammar::tables::{Dim, MAX_POSITION, Tables, Var};
 use items::types::DataType;
+use model::rows::vars;
 
 // The largest padded chunk and record size.
 pub const MAX_CHUNK: u64 = 0x1000_0000_0000_0000;
 
-// What one pass over the variables finds: whether rule 12 holds, and where it does, the record size, the
-// smallest begin of a record variable, whether the fixed variables end inside, and the largest end of a
-// record variable's first chunk.
+// What one pass over the variables finds where rule 12 holds: the record size, the smallest begin of a
+// record variable, whether the fixed variables end inside, and the largest end of a record variable's
+// first chunk.
 #[derive(Clone, Copy)]
 pub struct Sizes {
-    pub hold: bool,
     pub step: u64,
     pub first: u64,
     pub fixed: bool,
     pub last: u64,
 }
 
-// The product of the number that `a` stands for and `b`; without a division where both are small.
+// The product of the number that `a` stands for and `b`.
 fn times(a: u64, b: u64) -> u64
     ensures { (x : ℕ) → a ≡ capped x → result ≡ capped (x * b) }
 {
-    if a < 0x1000_0000 {
-        if b < 0x1_0000_0000 {
-            return a * b;
-        }
+    a.saturating_mul(b).min(MAX_CHUNK + 1)
+}
+
+// The length of a dimension; past the rows 0.
+fn length_of(dims: &[Dim], id: u32) -> u32
+    ensures { result ≡ (get_or dims.now id no_dim).length }
+{
+    match dims.get(id as usize) {
+        Some(d) => d.length,
+        None => 0,
     }
-    if b == 0 {
-        return 0;
-    }
-    if MAX_CHUNK / b < a {
-        return MAX_CHUNK + 1;
-    }
-    a * b
 }
 
 // Whether the unlimited dimension stands first.
-pub fn is_record(dims: [Dim; 32], v: Var) -> bool
-    requires { (v.rank ≤ 8) × ((k : ℕ) → k < v.rank → id_at v k < 32) }
-    ensures { result ≡ is_record dims v }
+#[tactic(auto, unfolding(crate::specs::Records::is_record))]
+pub fn is_record(dims: &[Dim], v: &Var) -> bool
+    ensures { result ≡ is_record dims.now v.now }
 {
-    if v.rank == 0 {
-        return false;
-    }
-    let id = v.ids[0] as usize;
-    let d = dims[id];
-    d.length == 0
+    0 < v.rank && length_of(dims, v.ids[0]) == 0
 }
 
 // How many dimensions are no part of the chunk.
-fn outer(dims: [Dim; 32], v: Var) -> usize
-    requires { (v.rank ≤ 8) × ((k : ℕ) → k < v.rank → id_at v k < 32) }
-    ensures { result ≡ outer dims v }
+fn outer(dims: &[Dim], v: &Var) -> usize
+    ensures { (result ≡ outer dims.now v.now) × (result ≤ v.now.rank) }
 {
     if is_record(dims, v) { 1 } else { 0 }
 }
 
-// The number of elements of a chunk.
-pub fn chunk_len(dims: [Dim; 32], v: Var) -> u64
-    requires { (v.rank ≤ 8) × ((k : ℕ) → k < v.rank → id_at v k < 32) }
-    ensures { result ≡ capped (chunk dims v) }
+// The number of elements of a chunk: the product of the lengths but the unlimited one.
+pub fn chunk_len(dims: &[Dim], v: &Var) -> u64
+    requires { v.now.rank ≤ 8 }
+    ensures { result ≡ capped (chunk dims.now v.now) }
 {
-    let rank = v.rank as usize;
-    let mut k = outer(dims, v);
+    let first = outer(dims, v);
     let mut product = 1;
-    while k < rank {
-        let id = v.ids[k] as usize;
-        let d = dims[id];
-        product = times(product, d.length as u64);
-        k += 1;
+    for id in &v.ids[first..v.rank as usize] {
+        product = times(product, length_of(dims, *id) as u64);
     }
     product
 }
@@ -94,108 +82,62 @@ fn padded_bytes(len: u64, code: u8) -> u64
     bytes + compute_padding_size(bytes)
 }
 
-pub fn smaller(a: u64, b: u64) -> u64
-    ensures { result ≡ min a b }
-{
-    if b < a { b } else { a }
-}
-
-fn larger(a: u64, b: u64) -> u64
-    ensures { result ≡ max a b }
-{
-    if a < b { b } else { a }
-}
-
-// The sizes with one variable more, of `padded` bytes a chunk.
-fn added(z: Sizes, records: bool, begin: u64, padded: u64) -> Sizes
+// The sizes with one variable more, of `padded` bytes a chunk, where rule 12 still holds.
+fn added(z: Sizes, records: bool, begin: u64, padded: u64) -> Option<Sizes>
     requires { z.step ≤ max_chunk }
-    ensures { (result.hold ≡ still_holds z records begin padded) × (result.hold ≡ true → result ≡ added z records begin padded) }
+    ensures { result ≡ cond (still_holds z records begin padded) (Some (added z records begin padded)) None }
 {
-    let mut r = z;
-    r.hold = false;
     if MAX_POSITION < begin {
-        return r;
+        return None;
     }
     if MAX_CHUNK < padded {
-        return r;
+        return None;
     }
     let end = begin + padded;
-    if records {
-        r.step = z.step + padded;
-        r.hold = r.step <= MAX_CHUNK;
-        r.first = smaller(z.first, begin);
-        r.last = larger(z.last, end);
-        return r;
+    if !records {
+        return Some(Sizes {
+            fixed: z.fixed && end <= MAX_POSITION,
+            ..z
+        });
     }
-    r.hold = true;
-    if MAX_POSITION < end {
-        r.fixed = false;
+    let step = z.step + padded;
+    if MAX_CHUNK < step {
+        return None;
     }
-    r
+    Some(Sizes {
+        step,
+        first: z.first.min(begin),
+        fixed: z.fixed,
+        last: z.last.max(end),
+    })
 }
 
-// Rule 12, and the sizes.
-pub fn measure(t: Tables) -> Sizes
-    requires { Shaped t × (ids_hold t ≡ true) }
-    ensures { (result.hold ≡ sizes_hold t) × (result.hold ≡ true → result ≡ sizes_of t) }
+// The sizes, where rule 12 holds.
+pub fn measure(t: &Tables) -> Option<Sizes>
+    requires { Shaped t.now }
+    ensures { result ≡ cond (sizes_hold t.now) (Some (sizes_of t.now)) None }
 {
-    let dims = t.dims;
-    let vars = t.vars;
+    let dims = &t.dims;
     let mut z = Sizes {
-        hold: true,
         step: 0,
         first: MAX_POSITION,
         fixed: true,
         last: 0,
     };
-    let mut i = 0;
-    while i < t.nvars {
-        let v = vars[i];
-        let mut records = false;
-        let mut len = 1;
-        let mut k = 0;
-        while k < v.rank as usize {
-            let id = v.ids[k] as usize;
-            let d = dims[id];
-            // where the ids hold, the unlimited dimension stands only first
-            if d.length == 0 {
-                records = true;
-            } else {
-                len = times(len, d.length as u64);
-            }
-            k += 1;
-        }
-        z = added(z, records, v.begin, padded_bytes(len, v.code));
-        if !z.hold {
-            return z;
-        }
-        i += 1;
+    for v in vars(t) {
+        let padded = padded_bytes(chunk_len(dims, v), v.code);
+        z = added(z, is_record(dims, v), v.begin, padded)?;
     }
-    z
+    Some(z)
 }
 
-// Whether `steps` records of `step` bytes take more than `room` bytes.
-fn passes(steps: u64, step: u64, room: u64) -> bool
-    ensures { result ≡ ltb room (steps * step) }
-{
-    if step == 0 {
-        return false;
-    }
-    room / step < steps
-}
-
-// Rule 15, where rule 12 holds, for `n` records.
+// Rule 15, where rule 12 holds, for `n` records. A number that saturates is above the limit.
 pub fn ends_hold(z: Sizes, n: u64) -> bool
     ensures { result ≡ ends_in z n }
 {
-    if !z.fixed {
-        return false;
-    }
     if n == 0 {
-        return true;
+        return z.fixed;
     }
-    if MAX_POSITION < z.last {
-        return false;
-    }
-    !passes(n - 1, z.step, MAX_POSITION - z.last)
+    let end = (n - 1).saturating_mul(z.step).saturating_add(z.last);
+    z.fixed && end <= MAX_POSITION
 }

@@ -17,12 +17,16 @@ use Rattle.std.proofs.lemmas.List.FromFn.{length-range_with_len, get_or-range_wi
 use Rattle.cdf.specs.Below.{all_below, any_below}
 
 -- a row among the first n of a list
-module _ {X : Type 0} (n : ℕ) (xs : List X) (i : ℕ) (d : X) (inside : i < length (take n xs)) where
-  pub row-below : i < n
-  row-below = omega (arith, length-take n xs)
+module _ {X : Type 0} (n : ℕ) (xs : List X) (i : ℕ) (d : X) where
+  pub row-below : i < length (take n xs) → i < n
+  row-below l = omega (arith, length-take n xs)
 
-  pub row-at : get_or (take n xs) i d ≡ get_or xs i d
-  row-at = get_or-take n xs i d row-below
+  pub row-at : i < length (take n xs) → get_or (take n xs) i d ≡ get_or xs i d
+  row-at l = get_or-take n xs i d (row-below l)
+
+  -- the same of rows that are those
+  pub row-of : {ys : List X} → ys ≡ take n xs → length ys ≡ n → i < length ys → get_or ys i d ≡ get_or xs i d
+  row-of e m l = ap (λ (zs : List X). get_or zs i d) e ∙ get_or-take n xs i d (omega arith)
 
 -- where all are done
 pub rows-done : {X : Type 0} (n : ℕ) (xs : List X) (i : ℕ) → n ≤ length xs → length (take n xs) ≤ i → n ≤ i

@@ -11,18 +11,20 @@ use borrow.Author.Tests.{lt-ltb, le-ltb, le-leb, lt-leb, eq-eqb, ne_eqb, leb-tru
 use Rattle.cdf.specs.Step.{Step, got, stop}
 use Rattle.cdf.specs.Below.{all_below, any_below}
 use Rattle.cdf.proofs.Laws.Step.{by-true, by-false}
-use Rattle.cdf.proofs.Laws.Below.{order, both, all_hold, holds_at, any-first, none_first}
-use Rattle.grammar.specs.Tables.{var_at}
+use Rattle.cdf.proofs.Laws.Below.{order, both, all_hold, holds_at}
+use Rattle.grammar.specs.Tables.{no_dim, var_at}
+use lib.ListN.{length, take}
+use Rattle.std.specs.List.{list_any}
+use Rattle.model.proofs.Laws.Rows.{any-rows}
 use Rattle.grammar.specs.Inner.Within.{Shaped}
-use Rattle.model.specs.Model.{is_unlimited, ids_hold}
-use Rattle.model.specs.Inner.Unlimited.{unlimited}
+use Rattle.model.specs.Model.{ids_hold}
 use Rattle.sizes.specs.Inner.Sizes.{placed, divided, capped, largest, first_end, fixed_ends, fixed_ends_hold, record_end, added, still_holds, ends_in, sizes_of}
 use Rattle.sizes.specs.Records.{smallest, total, is_record, padded_bytes, record_part, record_size, max_position, max_chunk, sizes_hold, end_of, ends_hold}
 use Rattle.sizes.specs.Count.{has_unlimited, has_records, first_begin, count_or, record_count}
 use Rattle.grammar.specs.declared.tables.Tables.{Tables}
 use Rattle.sizes.specs.declared.records.Sizes.{Sizes}
-use Rattle.sizes.specs.declared.count.Known.{Known}
-use Rattle.sizes.specs.declared.count.Known.TheVariants.{Count, Open}
+use Rattle.std.proofs.Common.{Option, Some, None}
+use Rattle.sizes.proofs.Laws.When.{when-some, when-none}
 use Rattle.sizes.proofs.Laws.Records.{part, padded-pos, capped_same, capped-both, total-more, still-is, still-step, placed-if, sizes_begin, sizes-chunk, sizes-sum, begin-in, largest-above, largest-below, never}
 
 module _ (t : Tables) where
@@ -30,14 +32,13 @@ module _ (t : Tables) where
   abbrev pub sizes_upto : ℕ → Sizes
   sizes_upto n =
       record {
-        hold = true;
         step = total (part t) n;
         first = smallest (λ i. is_record t.dims (var_at t i)) (λ i. (var_at t i).begin) max_position n;
         fixed = all_below n (fixed_ends t);
         last = largest (λ i. is_record t.dims (var_at t i)) (first_end t) n;
       }
 
-  pub upto-none : record { hold = true; step = 0; first = max_position; fixed = true; last = 0 } ≡ sizes_upto 0
+  pub upto-none : record { step = 0; first = max_position; fixed = true; last = 0 } ≡ sizes_upto 0
   unfolding total smallest all_below largest
   upto-none = refl
 
@@ -50,9 +51,9 @@ module _ (t : Tables) where
   upto_all e = ap sizes_upto e
 
   -- one variable more, by the numbers at hand: b, p, and what `added` answers
-  module _ (i : ℕ) {z r : Sizes} {b : Bool} (p : ℕ) (inside : i < t.nvars) (upto : z ≡ sizes_upto i) (is : b ≡ is_record t.dims (var_at t i))
+  module _ (i : ℕ) {z : Sizes} {o : Option Sizes} {b : Bool} (p : ℕ) (inside : i < t.nvars) (upto : z ≡ sizes_upto i) (is : b ≡ is_record t.dims (var_at t i))
       (alike : capped p ≡ capped (padded_bytes t.dims (var_at t i)))
-      (still : r.hold ≡ still_holds z b (var_at t i).begin p) (more : r.hold ≡ true → r ≡ added z b (var_at t i).begin p) where
+      (more : o ≡ cond (still_holds z b (var_at t i).begin p) (Some (added z b (var_at t i).begin p)) None) where
     step_is : p ≤ max_chunk → z.step + cond b p 0 ≡ total (part t) (i + 1)
     step_is h =
         ap (λ (y : Sizes). y.step + cond b p 0) upto
@@ -60,11 +61,12 @@ module _ (t : Tables) where
         ∙ ap (λ (y : ℕ). total (part t) i + cond (is_record t.dims (var_at t i)) y 0) (capped_same p _ alike h)
         ∙ sym (total-more (part t) i)
 
-    pub upto_turn : r.hold ≡ true → (placed t i ≡ true) × (r ≡ sizes_upto (i + 1)) × (r.step ≤ max_chunk)
-    upto_turn e =
-        let s = still-is z b (var_at t i).begin p (sym still ∙ e) in
+    pub upto_turn : {r : Sizes} → o ≡ Some r → (placed t i ≡ true) × (r ≡ sizes_upto (i + 1)) × (r.step ≤ max_chunk)
+    upto_turn {r} e =
+        let w = when-some (still_holds z b (var_at t i).begin p) _ (sym more ∙ e) in
+        let s = still-is z b (var_at t i).begin p w.0 in
         let q = capped_same p _ alike s.1 in
-        let a = more e in (
+        let a = w.1 in (
           placed-if t i s.0 (subst (λ (n : ℕ). n ≤ max_chunk) q s.1),
           a
               ∙ ap (λ (y : Sizes). added y b (var_at t i).begin p) upto
@@ -74,12 +76,13 @@ module _ (t : Tables) where
           subst (λ (y : Sizes). y.step ≤ max_chunk) (sym a) s.2,
         )
 
-    pub upto-broken : r.hold ≡ false → false ≡ sizes_hold t
+    pub upto-broken : o ≡ None → false ≡ sizes_hold t
     upto-broken e =
+        let still = when-none (still_holds z b (var_at t i).begin p) _ (sym more ∙ e) in
         ⊎_elim
         (λ (h : (var_at t i).begin ≤ max_position).
         ⊎_elim
-        (λ (k : p ≤ max_chunk). ⊎_elim (λ (l : z.step + cond b p 0 ≤ max_chunk). never _ (sym e ∙ still ∙ sym (still-step z b (var_at t i).begin p h k) ∙ le-leb _ max_chunk l))
+        (λ (k : p ≤ max_chunk). ⊎_elim (λ (l : z.step + cond b p 0 ≤ max_chunk). never _ (sym still ∙ sym (still-step z b (var_at t i).begin p h k) ∙ le-leb _ max_chunk l))
         (λ (l : max_chunk < z.step + cond b p 0). sizes-sum t (i + 1) (omega arith) (subst (λ (n : ℕ). max_chunk < n) (step_is k) l)) (order (z.step + cond b p 0) max_chunk))
         (λ (k : max_chunk < p). sizes-chunk t i inside (capped-both p _ alike k))
         (order p max_chunk))
@@ -181,37 +184,25 @@ module _ (t : Tables) where
     unfolding record_size has_records
     records-positive e = ltb-true 0 _ (records-upto t.nvars (omega arith) ∙ e)
 
-  pub unlimited-no : t.ndims ≤ unlimited t → has_unlimited t ≡ false
-  unfolding has_unlimited unlimited
-  unlimited-no h = none_first (is_unlimited t) t.ndims h
-
-  pub unlimited-yes : unlimited t < t.ndims → has_unlimited t ≡ true
-  unfolding has_unlimited unlimited
-  unlimited-yes h = any-first (is_unlimited t) t.ndims h
-
   -- a count that is given, and one that is opened by the size, whatever that comes to
   module _ (x : Step ℕ) where
-    pub count-fixed : t.ndims ≤ unlimited t → got 0 0 ≡ count_or t x
-    count-fixed h = by-false _ (unlimited-no h) refl
+    pub count-fixed : has_unlimited t ≡ false → got 0 0 ≡ count_or t x
+    count-fixed e = by-false _ e refl
 
-    module _ (has : unlimited t < t.ndims) where
+    module _ (has : has_unlimited t ≡ true) where
       pub count_word : (t.word ≡ 4294967295 → ⊥) → got t.word 0 ≡ count_or t x
-      count_word n = by-true _ (unlimited-yes has) (by-false _ (ne_eqb t.word 4294967295 n) refl)
+      count_word n = by-true _ has (by-false _ (ne_eqb t.word 4294967295 n) refl)
 
       module _ (isopen : t.word ≡ 4294967295) where
         pub count_none : has_records t ≡ false → got 0 0 ≡ count_or t x
-        count_none e = by-true _ (unlimited-yes has) (by-true _ (eq-eqb t.word 4294967295 isopen) (by-false _ e refl))
+        count_none e = by-true _ has (by-true _ (eq-eqb t.word 4294967295 isopen) (by-false _ e refl))
 
         pub count-opened : has_records t ≡ true → x ≡ count_or t x
-        count-opened e = by-true _ (unlimited-yes has) (by-true _ (eq-eqb t.word 4294967295 isopen) (by-true _ e refl))
+        count-opened e = by-true _ has (by-true _ (eq-eqb t.word 4294967295 isopen) (by-true _ e refl))
 
   pub count-is : count_or t (divided t.size (first_begin t) (record_size t)) ≡ record_count t
   unfolding record_count divided
   count-is = refl
-
--- a count that is given is not open
-pub not-open : (n : ℕ) (X : Type 0) → ◌≡◌ {A = Known} (Count n) Open → X
-not-open n X e = let z : ◌≡◌ {A = Bool} false true = cc in never X z
 
 module _ (size first step : ℕ) where
   pub divided-below : size < first → stop 14 0 ≡ divided size first step
@@ -225,3 +216,8 @@ module _ (size first step : ℕ) where
   pub divided-even : first ≤ size → (size - first) % step ≡ 0 → got ((size - first) / step) 0 ≡ divided size first step
   unfolding divided
   divided-even h e = by-true _ (le-leb first size h) (by-true _ (eq-eqb _ _ e) refl)
+
+-- whether a dimension is unlimited, by the rows
+pub has_unlimited-by : (t : Tables) → t.ndims ≤ length t.dims → list_any (λ d. eqb d.length 0) (take t.ndims t.dims) ≡ has_unlimited t
+unfolding has_unlimited
+has_unlimited-by t h = any-rows (λ d. eqb d.length 0) t.dims no_dim t.ndims h

@@ -1,26 +1,17 @@
 -- What one pass over the variables finds, from which rules 12 and 15 and the record count are decided.
-use Rattle.std.specs.Prelude.{ℕ, zero, suc, ◌+◌, ◌-◌, ◌*◌, ◌/◌, ◌%◌, min, max, Bool, true, cond, ◌&&◌, ◌||◌, leb, eqb}
-use Rattle.cdf.specs.Step.{Step, got, stop, need}
+use Rattle.std.specs.Prelude.{ℕ, zero, suc, ◌+◌, ◌-◌, ◌*◌, ◌/◌, ◌%◌, min, max, Bool, cond, Option, Some, None, ◌&&◌, ◌||◌, leb, eqb}
+use Rattle.cdf.specs.Step.{Step, got, need}
 use Rattle.cdf.specs.Below.{all_below}
 use Rattle.grammar.specs.Tables.{var_at}
 use Rattle.sizes.specs.Records.{is_record, padded_bytes, record_size, max_position, max_chunk}
 use Rattle.sizes.specs.Count.{first_begin}
 use Rattle.grammar.specs.declared.tables.Tables.{Tables}
 use Rattle.sizes.specs.declared.records.Sizes.{Sizes}
-use Rattle.sizes.specs.declared.count.Counted.{Counted}
-use Rattle.sizes.specs.declared.count.Counted.TheVariants.{Records, Refused}
-use Rattle.sizes.specs.declared.count.Known.{Known}
-use Rattle.sizes.specs.declared.count.Known.TheVariants.{Count, Open}
 
--- what the answer of the function that counts means
-abbrev pub of_counted : Counted → Step ℕ
-of_counted (Records n) = got n 0
-of_counted (Refused k) = stop k 0
-
--- what the answer of the function that looks for a given count means, where x is opened by the file's size
-abbrev pub of_known : Known → Step ℕ → Step ℕ
-of_known (Count n) x = got n 0
-of_known Open x = x
+-- a count that is given, or else the step x, which opens it by the file's size
+abbrev pub or_given : Option ℕ → Step ℕ → Step ℕ
+or_given (Some n) x = got n 0
+or_given None x = x
 
 -- the count of an open file: the records of `step` bytes from the first begin up to the size
 unfoldable pub divided : ℕ → ℕ → ℕ → Step ℕ
@@ -60,13 +51,12 @@ record_end t = largest (λ i. is_record t.dims (var_at t i)) (first_end t) t.nva
 
 -- the sizes of tables, where rule 12 holds
 abbrev pub sizes_of : Tables → Sizes
-sizes_of t = record { hold = true; step = record_size t; first = first_begin t; fixed = fixed_ends_hold t; last = record_end t }
+sizes_of t = record { step = record_size t; first = first_begin t; fixed = fixed_ends_hold t; last = record_end t }
 
 -- sizes with one variable more, where rule 12 holds
 abbrev pub added : Sizes → Bool → ℕ → ℕ → Sizes
 added z records begin padded =
     record {
-      hold = true;
       step = z.step + cond records padded 0;
       first = cond records (min z.first begin) z.first;
       fixed = z.fixed && (records || leb (begin + padded) max_position);

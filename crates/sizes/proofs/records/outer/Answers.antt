@@ -1,9 +1,8 @@
-use mathlib.Core.Bool.{Bool, cond}
-use mathlib.Core.Path.{sym, ap, ◌∙◌}
+use Rattle.std.proofs.Common.{arith, ap, sym, ◌∙◌, cond, Bool}
+use Rattle.sizes.proofs.Laws.Records.{outer-within}
 use Rattle.sizes.proofs.records.outer.Goals as goal
 
 pub returns-then-is_record : goal.returns-then-is_record
-returns-then-is_record c = ap (λ (b : Bool). cond b 1 0) (sym c.if-is_record.true ∙ c.is_record.ensures)
-
-pub returns-else-is_record : goal.returns-else-is_record
-returns-else-is_record c = ap (λ (b : Bool). cond b 1 0) (sym c.if-is_record.false ∙ c.is_record.ensures)
+returns-then-is_record c =
+    let e = ap (λ (b : Bool). cond b 1 0) (sym c.if-is_record.true ∙ c.is_record.ensures) in
+    (e, omega (arith, e, outer-within c.args.dims.now c.args.v.now))

@@ -1,0 +1,14 @@
+// The rows of tables that are in use.
+ghost use Rattle.std.specs.Prelude.{◌≡◌, ◌≤◌, length, take};
+
+use grammar::tables::{Tables, Var};
+
+// The rows of the variables.
+pub fn vars(t: &Tables) -> &[Var]
+    requires { t.now.nvars ≤ 64 }
+    ensures rows { result.now ≡ take t.now.nvars t.now.vars }
+    ensures number { length result.now ≡ t.now.nvars }
+{
+    let (vars, _) = t.vars.split_at(t.nvars);
+    vars
+}
