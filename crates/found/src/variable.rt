@@ -1,6 +1,5 @@
 // The variable that a read asks for, in tables that are tested first.
-ghost use Rattle.std.specs.Prelude.{◌≡◌, cond, ℕ, ◌≤◌, ◌<◌};
-ghost use Rattle.grammar.specs.Tables.{id_at};
+ghost use Rattle.std.specs.Prelude.{◌≡◌, cond, ◌≤◌};
 ghost use Rattle.sizes.specs.Records.{chunk, record_size, max_chunk};
 ghost use Rattle.found.specs.Sought.{spread, sought, of_sought};
 
@@ -35,7 +34,7 @@ fn records_of(records: bool, count: u64) -> u64
 
 // The numbers of a row of tables that hold.
 fn described(t: Tables, v: Var, step: u64) -> Spread
-    requires { (v.rank ≤ 8) × ((k : ℕ) → k < v.rank → id_at v k < 32) × (1 ≤ v.code) × (v.code ≤ 6) × (chunk t.dims v ≤ max_chunk) × (step ≡ record_size t) }
+    requires { (v.rank ≤ 8) × (1 ≤ v.code) × (v.code ≤ 6) × (chunk t.dims v ≤ max_chunk) × (step ≡ record_size t) }
     ensures { result ≡ spread t v }
 {
     let dims = t.dims;
@@ -43,9 +42,9 @@ fn described(t: Tables, v: Var, step: u64) -> Spread
     let kind = DataType::of_code(v.code as u64);
     Spread {
         begin: v.begin,
-        records: records_of(is_record(dims, v), count),
+        records: records_of(is_record(&dims, &v), count),
         step,
-        chunk: chunk_len(dims, v),
+        chunk: chunk_len(&dims, &v),
         width: kind.size_of(),
         code: v.code,
     }
@@ -55,15 +54,13 @@ fn described(t: Tables, v: Var, step: u64) -> Spread
 pub fn seek(t: Tables, i: usize) -> Sought
     ensures { of_sought result ≡ sought t i }
 {
-    let tested = tables_hold(t);
-    if !tested.hold {
+    let Some(step) = tables_hold(&t) else {
         return Sought::Refused(23);
-    }
+    };
     if t.nvars <= i {
         return Sought::Refused(16);
     }
     let vars = t.vars;
     let v = vars[i];
-    let step = tested.step;
     Sought::Got(described(t, v, step))
 }

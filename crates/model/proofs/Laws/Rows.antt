@@ -55,6 +55,14 @@ module _ {X : Type 0} (p : X → Bool) (xs : List X) (d : X) where
   any-rows zero h = refl
   any-rows (suc n) h = rw (← add-one) (list_any_more p xs n d (omega arith) ∙ ap (λ (b : Bool). b || p (get_or xs n d)) (any-rows n (omega arith)))
 
+  -- the same of rows that are those
+  module _ (n : ℕ) {ys : List X} (rows : ys ≡ take n xs) (number : length ys ≡ n) where
+    enough : n ≤ length xs
+    enough = omega (arith, length-take n xs, ap length rows)
+
+    pub all-of : list_all p ys ≡ all_below n (λ i. p (get_or xs i d))
+    all-of = ap (list_all p) rows ∙ all-rows n enough
+
   pub all-list : list_all p xs ≡ all_below (length xs) (λ i. p (get_or xs i d))
   all-list = ap (list_all p) (sym (take_all (length xs) xs (omega arith))) ∙ all-rows (length xs) (omega arith)
 

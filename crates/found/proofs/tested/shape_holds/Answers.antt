@@ -1,23 +1,16 @@
-use mathlib.Core.Path.{sym, ◌∙◌}
-use native.Mathlib.Omega.{arith}
-use borrow.Author.Count.{below_none, below_more}
-use Rattle.found.proofs.Laws.Sought.{shape-dims, shape-vars, shape_row, shape-all}
+use Rattle.std.proofs.Common.{rules, ◌∙◌, arith}
+use borrow.Author.Tests.{tests}
+use Rattle.std.proofs.lemmas.Iterator.{YieldsList-from_slice}
+use Rattle.std.proofs.lemmas.Iterator.Search.{all_from_yields_List}
+use Rattle.grammar.specs.Tables.{no_var}
+use Rattle.model.proofs.Laws.Rows.{all-of}
+use Rattle.found.specs.Inner.Row.{row_holds}
+use Rattle.found.proofs.Laws.Sought.{shape-is}
 use Rattle.found.proofs.tested.shape_holds.Goals as goal
 
-pub returns-then-t-gt-MAX_DIMS : goal.returns-then-t-gt-MAX_DIMS
-returns-then-t-gt-MAX_DIMS c = shape-dims _ c.if-t-gt-MAX_DIMS.true
-
-pub returns-then-t-gt-MAX_VARS : goal.returns-then-t-gt-MAX_VARS
-returns-then-t-gt-MAX_VARS c = shape-vars _ (omega arith) c.if-t-gt-MAX_VARS.true
-
-pub loop-i-init : goal.loop-i-init
-loop-i-init c = (omega arith, below_none _)
-
-pub returns-then-not-row_holds : goal.returns-then-not-row_holds
-returns-then-not-row_holds c = shape_row _ (omega arith) (omega arith) _ c.loop-i-test.true (sym c.row_holds.ensures ∙ c.if-not-row_holds.true)
-
-pub loop-i-preserved : goal.loop-i-preserved
-loop-i-preserved c = (omega arith, below_more _ _ c.loop-i.invariant.1 (sym c.row_holds.ensures ∙ c.if-not-row_holds.false))
-
 pub returns : goal.returns
-returns c = shape-all _ (omega arith) (omega arith) (λ k h. c.loop-i.invariant.1 k (omega arith))
+returns c =
+    let t = c.args.t.now in
+    all_from_yields_List row_holds _ _ _ c.all.ensures.ran (YieldsList-from_slice c.vars.result.now c.iter.ensures.rest) (λ x r q k. search (rules, tests))
+    ∙ all-of row_holds t.vars no_var t.nvars c.vars.ensures.rows c.vars.ensures.number
+    ∙ shape-is t (omega arith) (omega arith)
