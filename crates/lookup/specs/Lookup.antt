@@ -1,14 +1,13 @@
 -- Name lookup (01, What is taken from the crate: "lookup gives the first number for a name, or the name for a number"; Answer numbers, 23 and 16).
 use Rattle.std.specs.Prelude.{ℕ, ◌+◌, Bool, ◌&&◌, ◌≡◌, List, length, ltb, leb, eqb}
 use Rattle.std.specs.Borrow.{Bor}
-use Rattle.cdf.specs.Step.{Step, got, stop, need, given_or}
+use Rattle.cdf.specs.Step.{Step, got, need, given_or}
 use Rattle.cdf.specs.Below.{all_below, first_where}
 use Rattle.items.specs.Name.{part, same_bytes}
 use Rattle.grammar.specs.Tables.{max_vars, var_at}
 use Rattle.grammar.specs.declared.tables.Tables.{Tables}
-use Rattle.model.specs.Model.{Span, var_names}
-use Rattle.lookup.specs.declared.names.Found.{Found}
-use Rattle.lookup.specs.declared.names.Found.TheVariants.{At, Refused}
+use Rattle.model.specs.declared.names.Span.{Span}
+use Rattle.model.specs.Model.{var_names}
 
 -- 01, number 23: "Name lookup tests the variable count and that variable names lie inside the buffer"
 unfoldable pub names_inside : List ℕ → Tables → Bool
@@ -28,11 +27,6 @@ find_var s t wanted =
     need (names_inside s t) 23 0 (
     need (ltb (first_named s t wanted) t.nvars) 16 0 (
     got (first_named s t wanted) 0))
-
--- the number and the value of each case of a lookup's answer: 0 and the variable's number, or the refusal's and none
-abbrev pub of_found : Found → Step ℕ
-of_found (At i) = got i 0
-of_found (Refused k) = stop k 0
 
 -- "the name for a number", by where it stands in the buffer: 23, then 16
 unfoldable pub name_of : List ℕ → Tables → ℕ → Step Span

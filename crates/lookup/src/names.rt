@@ -1,99 +1,78 @@
 // A variable by its name, and a name by its variable's number.
-ghost use Rattle.std.specs.Prelude.{◌≡◌, ◌+◌, ◌≤◌, length, ◌&&◌, eqb};
-ghost use Rattle.cdf.specs.Step.{number_of};
+ghost use Rattle.std.specs.Prelude.{◌≡◌, ◌+◌, ◌≤◌, length, ◌&&◌, eqb, leb};
+ghost use Rattle.cdf.specs.Refusals.{of_result};
 ghost use Rattle.items.specs.Name.{same_bytes};
-ghost use Rattle.lookup.specs.Lookup.{names_inside, find_var, of_found, name_of, IsName};
+ghost use Rattle.lookup.specs.Lookup.{names_inside, find_var, name_of, IsName};
 
+use cdf::refusal::Refusal;
 use grammar::tables::{MAX_VARS, Tables, Var};
+use model::names::{Named, Span};
+use model::rows::vars;
 
-#[derive(Clone, Copy)]
-pub enum Found {
-    At(usize),
-    Refused(u8),
+// Whether a variable's name lies inside the buffer.
+fn is_inside(s: &[u8], v: &Var) -> bool
+    ensures { result ≡ leb (v.now.name + v.now.chars) (length s.now) }
+{
+    v.name <= s.len() && v.chars as usize <= s.len() - v.name
 }
 
 // Whether there are no more variables than rows, and their names lie inside the buffer.
-fn names_inside(s: &[u8], t: Tables) -> bool
-    ensures { result ≡ names_inside s.now t }
+#[tactic(auto, unfolding(crate::specs::Lookup::names_inside))]
+fn names_inside(s: &[u8], t: &Tables) -> bool
+    ensures { result ≡ names_inside s.now t.now }
 {
     if MAX_VARS < t.nvars {
         return false;
     }
-    let n = s.len();
-    let mut i = 0;
-    while i < t.nvars {
-        let v = t.vars[i];
-        if n < v.name {
-            return false;
-        }
-        if n - v.name < v.chars as usize {
-            return false;
-        }
-        i += 1;
-    }
-    true
+    vars(t).iter().all(|v| is_inside(s, v))
 }
 
-// Whether the `chars` bytes of `s` from `at` are `wanted`.
-fn is_named(s: &[u8], at: usize, chars: usize, wanted: &[u8]) -> bool
-    requires { at + chars ≤ length s.now }
-    ensures { result ≡ (eqb chars (length wanted.now) && same_bytes s.now at wanted.now 0 chars) }
+// Whether a variable's name is `wanted`.
+fn is_named(s: &[u8], v: &Var, wanted: &[u8]) -> bool
+    requires { v.now.name + v.now.chars ≤ length s.now }
+    ensures { result ≡ (eqb v.now.chars (length wanted.now) && same_bytes s.now v.now.name wanted.now 0 v.now.chars) }
 {
-    if chars != wanted.len() {
-        return false;
-    }
-    let mut k = 0;
-    while k < chars {
-        if s[at + k] != wanted[k] {
-            return false;
-        }
-        k += 1;
-    }
-    true
+    let end = v.name + v.chars as usize;
+    &s[v.name..end] == wanted
 }
 
 // The number of the first variable named `name`, or the refusal 23 or 16.
-pub fn find_var(s: &[u8], t: Tables, name: &[u8]) -> Found
-    ensures { of_found result ≡ find_var s.now t name.now }
+#[tactic(auto, unfolding(cdf::specs::Step::test, crate::specs::Lookup::find_var))]
+pub fn find_var(s: &[u8], t: &Tables, name: &[u8]) -> Result<usize, Refusal>
+    ensures { of_result result ≡ find_var s.now t.now name.now }
 {
     if !names_inside(s, t) {
-        return Found::Refused(23);
+        return Err(Refusal::Tables);
     }
-    let mut i = 0;
-    while i < t.nvars {
-        let v = t.vars[i];
-        let at = v.name;
-        let chars = v.chars as usize;
-        if is_named(s, at, chars, name) {
-            return Found::At(i);
+    for (i, v) in vars(t).iter().enumerate() {
+        if is_named(s, v, name) {
+            return Ok(i);
         }
-        i += 1;
     }
-    Found::Refused(16)
+    Err(Refusal::NoVariable)
 }
 
-// The answer number of the lookup of a variable's name: 0, 23 or 16.
-pub fn var_name_answer(s: &[u8], t: Tables, i: usize) -> u8
-    ensures { result ≡ number_of (name_of s.now t i) }
+// Where the name of the variable `i` stands, or the refusal 23 or 16.
+#[tactic(auto, unfolding(cdf::specs::Step::test, crate::specs::Lookup::name_of))]
+pub fn find_name(s: &[u8], t: &Tables, i: usize) -> Result<Span, Refusal>
+    ensures { of_result result ≡ name_of s.now t.now i }
 {
     if !names_inside(s, t) {
-        return 23;
+        return Err(Refusal::Tables);
     }
     if t.nvars <= i {
-        return 16;
+        return Err(Refusal::NoVariable);
     }
-    0
+    Ok(t.vars[i].span())
 }
 
 // The name of the variable `i`: the part of `s` that holds it, or the empty part in a refusal.
-pub fn var_name(s: &[u8], t: Tables, i: usize) -> &[u8]
-    ensures { IsName s.entry t i result }
+pub fn var_name<'a>(s: &'a [u8], t: &Tables, i: usize) -> &'a [u8]
+    ensures { IsName s.entry t.now i result }
 {
-    if var_name_answer(s, t, i) != 0 {
+    let Ok(name) = find_name(s, t, i) else {
         return &s[0..0];
-    }
-    let v = t.vars[i];
-    let at = v.name;
-    let end = at + v.chars as usize;
-    &s[at..end]
+    };
+    let end = name.at + name.chars as usize;
+    &s[name.at..end]
 }

@@ -14,7 +14,7 @@ pub struct Span {
 }
 
 // A row of tables, which has a name.
-pub(crate) trait Named {
+pub trait Named {
     ghost span_of: { Self → Span };
 
     fn span(&self) -> Span

@@ -3,36 +3,56 @@ use Prim.Native.Nat.{ℕ, ◌+◌, ◌≤◌, ◌<◌}
 use native.Mathlib.Omega.{arith}
 use native.Mathlib.Nat.{zero-add}
 use mathlib.Core.Path.{◌≡◌, refl, sym, ap, ◌∙◌}
-use mathlib.Core.Bool.{Bool, true, false, ◌&&◌, and-false}
+use mathlib.Core.Bool.{Bool, true, false, ◌&&◌}
 use mathlib.Core.List.{List}
-use lib.ListN.{length, get_or}
-use lib.Dec.{ltb, leb, eqb}
-use borrow.Author.Tests.{lt-ltb, le-ltb, le-leb, lt-leb, eq-eqb, ne_eqb, leb-true, ltb-true, ltb-false}
-use Rattle.cdf.specs.Step.{got, stop, number_of}
+use lib.ListN.{length, get_or, take, drop}
+use lib.Dec.{leb, eqb}
+use borrow.Author.Tests.{lt-ltb, le-ltb, le-leb, lt-leb, eq-eqb, leb-true, ltb-true, eqb-true}
+use Rattle.cdf.specs.Step.{got, stop}
 use Rattle.cdf.specs.Below.{all_below, first_where}
-use Rattle.cdf.proofs.Laws.Step.{by-true, by-false}
+use Rattle.cdf.proofs.Laws.Step.{by-true, by-false, test-came, got_same}
+use Rattle.std.specs.Cmp.Lexicographic.{pointwise}
+use Rattle.std.proofs.lemmas.Slice.Eq.{bytes_eq-Decides}
+use Rattle.std.proofs.lemmas.Grind.{same_number_lists}
+use Rattle.std.proofs.lemmas.List.{get_or-take, get_or-drop, length-take-le, length-drop}
+use Rattle.model.proofs.Laws.Rows.{all-same}
+use Rattle.model.specs.declared.names.Span.{Span}
 use Rattle.model.specs.Model.{var_names}
 use Rattle.items.specs.Name.{same_bytes}
-use Rattle.cdf.proofs.Laws.Below.{both, all_hold, one-fails, holds_at, first-none, first-is}
+use Rattle.cdf.proofs.Laws.Below.{both, all_hold, holds_at, first-none, first-is}
 use Rattle.grammar.specs.Tables.{max_vars, var_at}
 use Rattle.grammar.specs.declared.tables.Tables.{Tables}
 use Rattle.lookup.specs.Lookup.{names_inside, is_named, first_named, find_var, name_of}
 
-module _ (s : List ℕ) (at n : ℕ) (wanted : List ℕ) where
-  -- the n bytes of s from a place are those that are looked for
-  abbrev pub Same : Bool
-  Same = eqb n (length wanted) && same_bytes s at wanted 0 n
+-- two lists of bytes are the same where their lengths are and each byte is
+same-lists : (xs ys : List ℕ) → pointwise eqb xs ys ≡ (eqb (length xs) (length ys) && all_below (length xs) (λ k. eqb (get_or xs k 0) (get_or ys k 0)))
+same-lists xs ys = same _ _ forth back
+  where
+    same : (a b : Bool) → (a ≡ true → b ≡ true) → (b ≡ true → a ≡ true) → a ≡ b
+    same true b f g = sym (f refl)
+    same false true f g = g refl
+    same false false f g = refl
 
-  pub same_length : (n ≡ length wanted → ⊥) → false ≡ Same
-  same_length e = rw (ne_eqb n (length wanted) e)
+    forth : pointwise eqb xs ys ≡ true → (eqb (length xs) (length ys) && all_below (length xs) (λ k. eqb (get_or xs k 0) (get_or ys k 0))) ≡ true
+    forth e =
+        let q = (bytes_eq-Decides xs ys).0 e in
+        rw (eq-eqb _ _ (ap length q)) (all_hold _ (length xs) (λ k l. eq-eqb _ _ (ap (λ (zs : List ℕ). get_or zs k 0) q)))
 
-  pub same_not : (k : ℕ) → k < n → (get_or s (at + k) 0 ≡ get_or wanted k 0 → ⊥) → false ≡ Same
-  unfolding same_bytes
-  same_not k l e = rw (one-fails (λ j. eqb (get_or s (at + j) 0) (get_or wanted (0 + j) 0)) n k l (rw (zero-add k) (ne_eqb (get_or s (at + k) 0) (get_or wanted k 0) e))) (sym (and-false (eqb n (length wanted))))
+    back : (eqb (length xs) (length ys) && all_below (length xs) (λ k. eqb (get_or xs k 0) (get_or ys k 0))) ≡ true → pointwise eqb xs ys ≡ true
+    back e =
+        let p = both _ _ e in
+        (bytes_eq-Decides xs ys).1 (same_number_lists xs ys (eqb-true _ _ p.0) (λ k l. eqb-true _ _ (holds_at _ (length xs) k p.1 l)))
 
-  pub same-all : n ≡ length wanted → ((k : ℕ) → k < n → get_or s (at + k) 0 ≡ get_or wanted k 0) → true ≡ Same
-  unfolding same_bytes
-  same-all e h = rw (eq-eqb n (length wanted) e) (sym (all_hold _ n (λ k l. rw (zero-add k) (eq-eqb _ _ (h k l)))))
+-- the n bytes of s from a place are those that are looked for
+pub same-part : (s : List ℕ) (at n : ℕ) {m : ℕ} (wanted : List ℕ) → m ≡ n → at + n ≤ length s → pointwise eqb (take m (drop at s)) wanted ≡ (eqb n (length wanted) && same_bytes s at wanted 0 n)
+unfolding same_bytes
+same-part s at n {m} wanted e h =
+    let l : length (take m (drop at s)) ≡ n = length-take-le m (drop at s) (omega (arith, length-drop at s)) ∙ e in
+    same-lists (take m (drop at s)) wanted
+    ∙ ap (λ (k : ℕ). eqb k (length wanted) && all_below k (λ i. eqb (get_or (take m (drop at s)) i 0) (get_or wanted i 0))) l
+    ∙ ap
+    (λ (b : Bool). eqb n (length wanted) && b)
+    (all-same _ _ n (λ k i. ap (λ (x : ℕ). eqb x (get_or wanted k 0)) (get_or-take m (drop at s) k 0 (omega arith) ∙ get_or-drop at s k 0) ∙ ap (λ (j : ℕ). eqb (get_or s (at + k) 0) (get_or wanted j 0)) (sym (zero-add k))))
 
 module _ (s : List ℕ) (t : Tables) where
   abbrev pub Inside : ℕ → Bool
@@ -42,13 +62,9 @@ module _ (s : List ℕ) (t : Tables) where
   unfolding names_inside
   inside-many h = rw (lt-leb t.nvars max_vars h)
 
-  pub inside-not : (i : ℕ) → i < t.nvars → length s < (var_at t i).name + (var_at t i).chars → false ≡ names_inside s t
+  pub inside-is : t.nvars ≤ 64 → all_below t.nvars Inside ≡ names_inside s t
   unfolding names_inside
-  inside-not i l h = rw (one-fails Inside t.nvars i l (lt-leb _ _ h)) (sym (and-false (leb t.nvars max_vars)))
-
-  pub inside-all : t.nvars ≤ 64 → ((i : ℕ) → i < t.nvars → Inside i ≡ true) → true ≡ names_inside s t
-  unfolding names_inside
-  inside-all h l = rw (le-leb t.nvars max_vars h) (sym (all_hold Inside t.nvars l))
+  inside-is h = rw (le-leb t.nvars max_vars h)
 
   module _ (inside : names_inside s t ≡ true) where
     pub few : t.nvars ≤ 64
@@ -89,11 +105,10 @@ module _ (s : List ℕ) (t : Tables) where
     unfolding name_of
     name-outside i = by-false _ outside refl
 
-  -- an answer 0 says that the names lie inside and the variable is one of them
-  pub name-says : (i : ℕ) → number_of (name_of s t i) ≡ 0 → (names_inside s t ≡ true) × (i < t.nvars)
-  name-says i e = split (names_inside s t) (ltb i t.nvars) refl refl
-    where
-      split : (a b : Bool) → names_inside s t ≡ a → ltb i t.nvars ≡ b → (names_inside s t ≡ true) × (i < t.nvars)
-      split true true f g = (f, ltb-true i t.nvars g)
-      split true false f g = let z : ◌≡◌ {A = ℕ} 16 0 = ap number_of (name-past f i (ltb-false i t.nvars g)) ∙ e in (f, omega arith)
-      split false b f g = let z : ◌≡◌ {A = ℕ} 23 0 = ap number_of (name-outside f i) ∙ e in (absurd (omega arith), absurd (omega arith))
+  -- what is given says that the names lie inside and the variable is one of them
+  pub name-says : (i : ℕ) {x : Span} → got x 0 ≡ name_of s t i → (names_inside s t ≡ true) × (i < t.nvars) × (x ≡ var_names t i)
+  unfolding name_of
+  name-says i e =
+      let p = test-came 23 0 e in
+      let q = test-came 16 0 p.1 in
+      (p.0, ltb-true i t.nvars q.0, got_same q.1)
