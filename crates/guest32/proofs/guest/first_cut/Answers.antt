@@ -1,20 +1,24 @@
 use native.Mathlib.Omega.{arith}
-use borrow.Author.Count.{below_none, below_more}
-use Rattle.sizes.proofs.Laws.Records.{ids-below}
+use mathlib.Core.Path.{refl}
+use borrow.Author.Count.{below_more}
+use Rattle.grammar.specs.Tables.{no_var}
+use Rattle.model.proofs.Laws.Rows.{row-of}
 use Rattle.guest32.proofs.Laws.Guest.{capped-short, capped-whole, cut-first, cut-none}
 use Rattle.guest32.proofs.guest.first_cut.Goals as goal
 
-pub loop-i-init : goal.loop-i-init
-loop-i-init c = (omega arith, below_none _)
-
-pub chunk_len-requires : goal.chunk_len-requires
-chunk_len-requires c = let p = c.requires in let inside = c.loop-i-test.true in ((p.0.rows _ inside).rank, ids-below _ p.1 _ inside p.0.dims)
-
 pub returns-then-chunk_len-ge-WORD : goal.returns-then-chunk_len-ge-WORD
-returns-then-chunk_len-ge-WORD c = cut-first _ c.loop-i-test.true c.loop-i.invariant.1 (capped-short _ _ c.chunk_len.ensures c.if-chunk_len-ge-WORD.true)
+returns-then-chunk_len-ge-WORD c =
+    let t = c.args.t.now in
+    let vs = c.vars-v-items.ensures in
+    let at = row-of t.nvars t.vars c.loop-i.i no_var vs.rows vs.number c.loop-i-test.true in
+    cut-first t (omega (arith, vs.number)) c.loop-i.invariant (capped-short _ _ (rw at at c.chunk_len.ensures) c.if-chunk_len-ge-WORD.true)
 
 pub loop-i-preserved : goal.loop-i-preserved
-loop-i-preserved c = (omega arith, below_more _ _ c.loop-i.invariant.1 (capped-whole _ _ c.chunk_len.ensures c.if-chunk_len-ge-WORD.false))
+loop-i-preserved c =
+    let t = c.args.t.now in
+    let vs = c.vars-v-items.ensures in
+    let at = row-of t.nvars t.vars c.loop-i.i no_var vs.rows vs.number c.loop-i-test.true in
+    below_more _ _ c.loop-i.invariant (capped-whole _ _ (rw at at c.chunk_len.ensures) c.if-chunk_len-ge-WORD.false)
 
 pub returns : goal.returns
-returns c = cut-none _ (omega arith) c.loop-i.invariant.1
+returns c = cut-none c.args.t.now refl (λ k l. c.loop-i.invariant k (omega (arith, c.vars-v-items.ensures.number)))

@@ -1,4 +1,4 @@
-use Prim.Native.Nat.{ℕ, ◌-◌, ◌≤◌, ◌<◌}
+use Prim.Native.Nat.{ℕ, ◌<◌}
 use mathlib.Core.Path.{◌≡◌}
 use mathlib.Core.Bool.{false}
 use Rattle.grammar.specs.Tables.{var_at}
@@ -6,7 +6,4 @@ use Rattle.guest32.specs.Guest.{cut_short}
 use Rattle.guest32.proofs.guest.first_cut.Given as goal
 
 abbrev pub invariant-loop-i : goal.invariant-loop-i
-invariant-loop-i l = (l.i ≤ l.t.nvars) × ((k : ℕ) → k < l.i → cut_short l.t.dims (var_at l.t k) ≡ false)
-
-abbrev pub decreases-loop-i : goal.decreases-loop-i
-decreases-loop-i l = l.t.nvars - l.i
+invariant-loop-i l = (k : ℕ) → k < l.i → cut_short l.t.dims (var_at l.t k) ≡ false

@@ -7,4 +7,4 @@ pub returns-then-step-eq0 : goal.returns-then-step-eq0
 returns-then-step-eq0 c = λ t e. foreign-none t _ c.if-step-eq0.true e
 
 pub returns : goal.returns
-returns c = λ t e. c.smaller.ensures ∙ foreign-past t (omega arith) e _
+returns c = λ t e. c.min.ensures ∙ foreign-past t (omega arith) e _

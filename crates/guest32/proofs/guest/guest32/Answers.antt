@@ -1,33 +1,35 @@
 use native.Mathlib.Omega.{arith}
-use mathlib.Core.Path.{sym, ap, ◌∙◌}
-use borrow.Author.Tests.{not-true, not-false}
-use Rattle.sizes.specs.Inner.Sizes.{of_counted}
+use Prim.Native.Nat.{ℕ}
+use mathlib.Core.Path.{◌≡◌, sym, ap, ◌∙◌}
+use Rattle.cdf.specs.Step.{Step, stop}
+use Rattle.guest32.specs.Guest.{guest_count}
+use Rattle.sizes.proofs.Laws.When.{when-some, when-none}
 use Rattle.sizes.proofs.Laws.Records.{sum-in}
 use Rattle.found.proofs.Laws.Sought.{tables-parts}
 use Rattle.guest32.proofs.Laws.Guest.{guest-tables, guest-refused, guest-counted}
 use Rattle.guest32.proofs.guest.guest32.Goals as goal
 
-pub returns-then-not-tested : goal.returns-then-not-tested
-returns-then-not-tested c = guest-tables _ (sym c.tables_hold-tested.ensures.0 ∙ not-true c.tables_hold-tested.result.hold c.if-not-tested.true)
+pub returns-in_default : goal.returns-in_default
+returns-in_default c = guest-tables _ (when-none _ _ (sym c.tables_hold.ensures ∙ c.in_default.is))
 
 pub first_cut-cut-requires : goal.first_cut-cut-requires
-first_cut-cut-requires c = let h = tables-parts _ (sym c.tables_hold-tested.ensures.0 ∙ not-false c.tables_hold-tested.result.hold c.if-not-tested.false) in (h.shape, h.ids)
+first_cut-cut-requires c = (tables-parts _ (when-some _ _ (sym c.tables_hold.ensures ∙ c.in-Some.is)).0).shape
 
-pub counted-requires : goal.counted-requires
-counted-requires c = let h = tables-parts _ (sym c.tables_hold-tested.ensures.0 ∙ not-false c.tables_hold-tested.result.hold c.if-not-tested.false) in (h.shape, h.ids, (c.tables_hold-tested.ensures.1 (not-false c.tables_hold-tested.result.hold c.if-not-tested.false)))
+pub invariant_of-counted : goal.invariant_of-counted
+invariant_of-counted c = let h = tables-parts _ (when-some _ _ (sym c.tables_hold.ensures ∙ c.in-Some.is)).0 in record { shaped = h.shape; ids = h.ids }
 
 pub first_foreign-requires : goal.first_foreign-requires
 first_foreign-requires c =
-    let t = c.args.t in
-    let h = tables-parts t (sym c.tables_hold-tested.ensures.0 ∙ not-false c.tables_hold-tested.result.hold c.if-not-tested.false) in
-    let m = sum-in t h.sizes in
-    omega (arith, (c.tables_hold-tested.ensures.1 (not-false c.tables_hold-tested.result.hold c.if-not-tested.false)))
+    let t = c.args.t.now in
+    let w = when-some _ _ (sym c.tables_hold.ensures ∙ c.in-Some.is) in
+    let m = sum-in t (tables-parts t w.0).sizes in
+    omega (arith, w.1)
 
-pub returns-in-Refused : goal.returns-in-Refused
-returns-in-Refused c = guest-refused _ (sym c.tables_hold-tested.ensures.0 ∙ not-false c.tables_hold-tested.result.hold c.if-not-tested.false) c.first_cut-cut.ensures (ap of_counted (sym c.in-Refused.is) ∙ c.counted.ensures)
+pub returns-in-Err : goal.returns-in-Err
+returns-in-Err c =
+    let hold = (when-some _ _ (sym c.tables_hold.ensures ∙ c.in-Some.is)).0 in
+    let e : ◌≡◌ {A = Step ℕ} (stop c.number.result 0) (guest_count c.args.t.now) = ap (λ (k : ℕ). stop k 0) c.number.ensures ∙ c.in-Err.ensures in
+    guest-refused _ hold c.first_cut-cut.ensures e
 
-pub returns-in-Records : goal.returns-in-Records
-returns-in-Records c =
-    let t = c.args.t in
-    let e = c.tables_hold-tested.ensures.1 (not-false c.tables_hold-tested.result.hold c.if-not-tested.false) in
-    guest-counted t (sym c.tables_hold-tested.ensures.0 ∙ not-false c.tables_hold-tested.result.hold c.if-not-tested.false) c.first_cut-cut.ensures (ap of_counted (sym c.in-Records.is) ∙ c.counted.ensures) (c.first_foreign.ensures t e)
+pub returns-in-Ok : goal.returns-in-Ok
+returns-in-Ok c = let w = when-some _ _ (sym c.tables_hold.ensures ∙ c.in-Some.is) in guest-counted _ w.0 c.first_cut-cut.ensures c.in-Ok.ensures (c.first_foreign.ensures c.args.t.now w.1)
