@@ -1,120 +1,182 @@
-// A chunk: values that stand one after the other. Each loop counts by the output's length, and reads by a load and a swap in
-// functions of their own: so, and not otherwise, LLVM makes vectors of it.
-ghost use Rattle.std.specs.Prelude.{◌≡◌, ◌*◌, length};
+// The elements of each type.
+ghost use Rattle.std.specs.Prelude.{◌≡◌, ◌*◌, length, refl};
 ghost use Rattle.bigendian.specs.Lists.{tab};
 ghost use Rattle.decode.specs.Decoded.{byte, short, int, float, double, raw};
 ghost use Rattle.decode.specs.Inner.Chunks.{of_chunk};
 
-use crate::pattern::{f32_of, f64_of, i8_of, i16_of, i32_of};
+use crate::element::Element;
+use crate::pattern::{f32_of, f64_of};
 use crate::short::{be16, low16, swap_pairs};
 use bigendian::number::{be32, be64, le64};
+use items::types::DataType;
 
 // Bytes.
-pub(crate) fn decode_i8(src: &[u8], out: &mut [i8])
-    requires { length src.now ≡ length out.old }
-    ensures { out.new ≡ tab (of_chunk byte 1 src.now) (length out.old) }
-{
-    let mut i = 0;
-    while i < out.len() {
-        out[i] = i8_of(src[i]);
-        i += 1;
+impl Element for i8 {
+    ghost value = { byte };
+
+    ghost CODE = { 1 };
+
+    const CODE: u8 = DataType::CODE_I8;
+
+    ghost WIDTH = { 1 };
+
+    const WIDTH: usize = 1;
+
+    ghost sized = { refl };
+
+    fn load(s: &[u8], at: usize) -> i8 {
+        s[at].cast_signed()
     }
 }
 
 // Chars.
-pub(crate) fn decode_u8(src: &[u8], out: &mut [u8])
-    requires { length src.now ≡ length out.old }
-    ensures { out.new ≡ tab (of_chunk raw 1 src.now) (length out.old) }
-{
-    let mut i = 0;
-    while i < out.len() {
-        out[i] = src[i];
-        i += 1;
+impl Element for u8 {
+    ghost value = { raw };
+
+    ghost CODE = { 2 };
+
+    const CODE: u8 = DataType::CODE_U8;
+
+    ghost WIDTH = { 1 };
+
+    const WIDTH: usize = 1;
+
+    ghost sized = { refl };
+
+    fn load(s: &[u8], at: usize) -> u8 {
+        s[at]
     }
 }
 
-// Shorts, four a turn: the pairs of a number of eight bytes are swapped all at once. LLVM joins the four stores into one and makes vectors of it
-// for each target; two bytes by themselves make one load on x86-64 alone. Then the last ones, one by one.
-pub(crate) fn decode_i16(src: &[u8], out: &mut [i16])
-    requires { length src.now ≡ 2 * length out.old }
-    ensures { out.new ≡ tab (of_chunk short 2 src.now) (length out.old) }
-{
-    let n = out.len();
-    let fours = n / 4;
-    let mut j = 0;
-    while j < fours {
-        let x = swap_pairs(le64(src, 8 * j));
-        let q = 4 * j;
-        out[q] = i16_of(low16(x));
-        out[q + 1] = i16_of(low16(x / 0x1_0000));
-        out[q + 2] = i16_of(low16(x / 0x1_0000_0000));
-        out[q + 3] = i16_of(low16(x / 0x1_0000_0000_0000));
-        j += 1;
+// Shorts.
+impl Element for i16 {
+    ghost value = { short };
+
+    ghost CODE = { 3 };
+
+    const CODE: u8 = DataType::CODE_I16;
+
+    ghost WIDTH = { 2 };
+
+    const WIDTH: usize = 2;
+
+    ghost sized = { refl };
+
+    fn load(s: &[u8], at: usize) -> i16 {
+        be16(s, at).cast_signed()
     }
-    let mut rest = n % 4;
-    while rest > 0 {
-        let i = n - rest;
-        out[i] = i16_of(be16(src, 2 * i));
-        rest -= 1;
+
+    // Four a turn: the pairs of a number of eight bytes are swapped all at once. LLVM joins the four stores into one and makes vectors of it
+    // for each target; two bytes by themselves make one load on x86-64 alone. Then the last ones, one by one.
+    fn decode(src: &[u8], out: &mut [i16]) {
+        let n = out.len();
+        let fours = n / 4;
+        for j in 0..fours {
+            let x = swap_pairs(le64(src, 8 * j));
+            let q = 4 * j;
+            out[q] = low16(x).cast_signed();
+            out[q + 1] = low16(x / 0x1_0000).cast_signed();
+            out[q + 2] = low16(x / 0x1_0000_0000).cast_signed();
+            out[q + 3] = low16(x / 0x1_0000_0000_0000).cast_signed();
+        }
+        let rest = n % 4;
+        for i in n - rest..n {
+            out[i] = i16::load(src, 2 * i);
+        }
     }
 }
 
 // Ints.
-pub(crate) fn decode_i32(src: &[u8], out: &mut [i32])
-    requires { length src.now ≡ 4 * length out.old }
-    ensures { out.new ≡ tab (of_chunk int 4 src.now) (length out.old) }
-{
-    let mut i = 0;
-    while i < out.len() {
-        out[i] = i32_of(be32(src, 4 * i));
-        i += 1;
+impl Element for i32 {
+    ghost value = { int };
+
+    ghost CODE = { 4 };
+
+    const CODE: u8 = DataType::CODE_I32;
+
+    ghost WIDTH = { 4 };
+
+    const WIDTH: usize = 4;
+
+    ghost sized = { refl };
+
+    fn load(s: &[u8], at: usize) -> i32 {
+        be32(s, at).cast_signed()
     }
 }
 
 // Floats by value.
-pub(crate) fn decode_f32(src: &[u8], out: &mut [f32])
-    requires { length src.now ≡ 4 * length out.old }
-    ensures { out.new ≡ tab (of_chunk float 4 src.now) (length out.old) }
-{
-    let mut i = 0;
-    while i < out.len() {
-        out[i] = f32_of(be32(src, 4 * i));
-        i += 1;
+impl Element for f32 {
+    ghost value = { float };
+
+    ghost CODE = { 5 };
+
+    const CODE: u8 = DataType::CODE_F32;
+
+    ghost WIDTH = { 4 };
+
+    const WIDTH: usize = 4;
+
+    ghost sized = { refl };
+
+    fn load(s: &[u8], at: usize) -> f32 {
+        f32_of(be32(s, at))
     }
 }
 
 // Doubles by value.
-pub(crate) fn decode_f64(src: &[u8], out: &mut [f64])
-    requires { length src.now ≡ 8 * length out.old }
-    ensures { out.new ≡ tab (of_chunk double 8 src.now) (length out.old) }
-{
-    let mut i = 0;
-    while i < out.len() {
-        out[i] = f64_of(be64(src, 8 * i));
-        i += 1;
+impl Element for f64 {
+    ghost value = { double };
+
+    ghost CODE = { 6 };
+
+    const CODE: u8 = DataType::CODE_F64;
+
+    ghost WIDTH = { 8 };
+
+    const WIDTH: usize = 8;
+
+    ghost sized = { refl };
+
+    fn load(s: &[u8], at: usize) -> f64 {
+        f64_of(be64(s, at))
     }
 }
 
 // Floats by their bits: a NaN keeps its payload, and a host reads the same memory as floats.
-pub(crate) fn decode_u32(src: &[u8], out: &mut [u32])
-    requires { length src.now ≡ 4 * length out.old }
-    ensures { out.new ≡ tab (of_chunk raw 4 src.now) (length out.old) }
-{
-    let mut i = 0;
-    while i < out.len() {
-        out[i] = be32(src, 4 * i);
-        i += 1;
+impl Element for u32 {
+    ghost value = { raw };
+
+    ghost CODE = { 5 };
+
+    const CODE: u8 = DataType::CODE_F32;
+
+    ghost WIDTH = { 4 };
+
+    const WIDTH: usize = 4;
+
+    ghost sized = { refl };
+
+    fn load(s: &[u8], at: usize) -> u32 {
+        be32(s, at)
     }
 }
 
 // Doubles by their bits.
-pub(crate) fn decode_u64(src: &[u8], out: &mut [u64])
-    requires { length src.now ≡ 8 * length out.old }
-    ensures { out.new ≡ tab (of_chunk raw 8 src.now) (length out.old) }
-{
-    let mut i = 0;
-    while i < out.len() {
-        out[i] = be64(src, 8 * i);
-        i += 1;
+impl Element for u64 {
+    ghost value = { raw };
+
+    ghost CODE = { 6 };
+
+    const CODE: u8 = DataType::CODE_F64;
+
+    ghost WIDTH = { 8 };
+
+    const WIDTH: usize = 8;
+
+    ghost sized = { refl };
+
+    fn load(s: &[u8], at: usize) -> u64 {
+        be64(s, at)
     }
 }

@@ -3,18 +3,12 @@ ghost use Rattle.std.specs.Prelude.{◌≡◌, ◌+◌, ◌*◌, ◌/◌, ◌%�
 ghost use Rattle.bigendian.specs.Number.{be};
 ghost use Rattle.decode.specs.Inner.Pairs.{evens, swapped};
 
-fn wide16(b: u8) -> u16
-    ensures { (result ≡ b) × (result < 256) }
-{
-    b as u16
-}
-
 // The number that the two bytes from `at` spell.
 pub fn be16(s: &[u8], at: usize) -> u16
     requires { at + 2 ≤ length s.now }
     ensures { result ≡ be 2 s.now at }
 {
-    wide16(s[at]) * 256 + wide16(s[at + 1])
+    u16::from(s[at]) * 256 + u16::from(s[at + 1])
 }
 
 // The lowest two bytes of a number of eight.

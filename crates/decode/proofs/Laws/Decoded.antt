@@ -2,19 +2,19 @@
 use mathlib.Core.Path.{◌≡◌, refl, sym, ap, ◌∙◌, subst}
 use mathlib.Core.Bool.{Bool, true, false, not}
 use mathlib.Core.List.{List}
-use Prim.Native.Nat.{ℕ, zero, suc, ◌+◌, ◌-◌, ◌*◌, ◌/◌, ◌%◌, ◌^◌, ◌≤◌, ◌<◌}
-use native.Mathlib.Nat.{add-zero, zero-add, add-mul, mul_assoc, mod-lt, div-add-mod', mul-add-mod_self_right, mod-eq_of_lt, one-mul}
+use Prim.Native.Nat.{ℕ, ◌+◌, ◌*◌, ◌/◌, ◌%◌, ◌^◌, ◌≤◌, ◌<◌}
+use native.Mathlib.Nat.{add-zero, zero-add, add-mul, mul_assoc, mod-lt, div-add-mod', mul-add-mod_self_right, mod-eq_of_lt}
 use native.Mathlib.Omega.{arith}
 use lib.ListN.{get_or}
-use lib.IntN.{ℤ, pos, negsuc, ◌-ℤ◌}
+use lib.IntN.{ℤ}
 use lib.Signed.{mag}
 use lib.Dec.{T, lit<}
 use lib.Ieee.{Float, nan, inf, fin, Format, binary32, binary64, is_nan, hid, ones, top, nan_bits, of_bits, of_fields, odd, div}
 use lib.Ieee.Bits.{nan_bits_is, nan_bits_above}
 use borrow.Author.Tests.{lt-ltb, le-ltb}
 use mir.Syntax.{Width}
-use mir.Val.{to_z, of_z, bits, hbits, SFits}
-use mir.ValLaws.{to_z_pos, to_z-neg, to_z-of_z}
+use mir.Val.{to_z, of_z, hbits}
+use mir.ValLaws.{to_z-of_z}
 use Rattle.bigendian.specs.Number.{be}
 
 -- ---- floats: a pattern above an infinity's, its sign dropped, is a NaN's, and no other is
@@ -54,27 +54,11 @@ module _ (f : Format) (b : ℕ) where
   pub no-nan-pattern : b * 2 % (top f * 2) ≤ ones f * hid f * 2 → T (not (nan_bits f b))
   no-nan-pattern h = subst (λ (t : Bool). T (not t)) (sym (nan_bits_above f b ∙ le-ltb _ _ (not-above h))) tt
 
--- ---- signed numbers: the pattern b of w bits, its top bit set, is -1 - m, m being its complement
-
-less_one : (m : ℕ) → negsuc 0 -ℤ pos m ≡ negsuc m
-less_one zero = refl
-less_one (suc m) = ap (λ (k : ℕ). negsuc (suc k)) (zero-add m)
-
-module _ (w : Width) (m b : ℕ) (small : m < 2 ^ hbits w) (sum : b ≡ 2 ^ bits w - suc m) where
-  is-negsuc : negsuc 0 -ℤ to_z w m ≡ negsuc m
-  is-negsuc = ap (λ (z : ℤ). negsuc 0 -ℤ z) (to_z_pos w m small) ∙ less_one m
-
-  pub flip-fits : SFits w (negsuc 0 -ℤ to_z w m)
-  flip-fits = subst (λ (z : ℤ). SFits w z) (sym is-negsuc) (record { sfits = small })
-
-  pub flip : to_z w (of_z w (negsuc 0 -ℤ to_z w m)) ≡ to_z w b
-  flip = to_z-of_z w _ flip-fits ∙ is-negsuc ∙ sym (ap (to_z w) sum ∙ to_z-neg w m small)
-
--- what a signed store leaves, of a result r that is the number of a pattern
+-- ---- signed numbers: what a store leaves, of a result r that is the number of a pattern
 pub stored : (w : Width) {r : ℤ} {b b' : ℕ} → mag r < 2 ^ hbits w → r ≡ to_z w b → b ≡ b' → to_z w (of_z w r) ≡ to_z w b'
 stored w {r} h e f = to_z-of_z w r (record { sfits = h }) ∙ e ∙ ap (to_z w) f
 
 -- ---- one byte
-pub one_byte : (s : List ℕ) (j : ℕ) → get_or s j 0 ≡ be 1 s (1 * j)
+pub byte_at : (s : List ℕ) (at : ℕ) → get_or s at 0 ≡ be 1 s at
 unfolding be
-one_byte s j = rw (one-mul, add-zero, zero-add) refl
+byte_at s at = rw (add-zero, zero-add) refl

@@ -2,7 +2,4 @@ use Rattle.decode.proofs.Laws.Pairs.{be-2}
 use Rattle.decode.proofs.short.be16.Goals as goal
 
 pub returns : goal.returns
-returns c =
-    let a = c.wide16.ensures.0 in
-    let b = c.wide16-2.ensures.0 in
-    cc (be-2 c.args.s.now c.args.at)
+returns c = cc (be-2 c.args.s.now c.args.at)
