@@ -1,6 +1,6 @@
 -- The variable that a read asks for, in tables that are tested first (01, Answer numbers: 23, 16 and 17; Records).
 use Rattle.std.specs.Prelude.{ℕ, Bool, cond, ◌&&◌, ltb, leb, eqb}
-use Rattle.cdf.specs.Step.{Step, got, stop, bind, need}
+use Rattle.cdf.specs.Step.{Step, got, bind, need}
 use Rattle.cdf.specs.Below.{between, all_below}
 use Rattle.items.specs.Types.{size_of}
 use Rattle.grammar.specs.Tables.{max_dims, max_vars, max_rank, var_at}
@@ -9,8 +9,6 @@ use Rattle.grammar.specs.declared.tables.Tables.{Tables}
 use Rattle.model.specs.Model.{ids_hold}
 use Rattle.sizes.specs.Records.{is_record, chunk, record_size, sizes_hold, ends_hold}
 use Rattle.found.specs.declared.variable.Spread.{Spread}
-use Rattle.found.specs.declared.variable.Sought.{Sought}
-use Rattle.found.specs.declared.variable.Sought.TheVariants.{Got, Refused}
 
 -- 01, number 23: "a read tests the numbers of dimensions, variables and dimensions a variable, .. type codes"
 unfoldable pub shape_holds : Tables → Bool
@@ -42,8 +40,3 @@ sought t i =
 -- and then 17, which "belongs to typed reads"
 unfoldable pub sought_as : ℕ → Tables → ℕ → Step Spread
 sought_as code t i = bind (sought t i) (λ v _. need (eqb v.code code) 17 0 (got v 0))
-
--- the number and the value of each case of the answer of the function that finds a variable: 0 and the variable, or the refusal's and none
-abbrev pub of_sought : Sought → Step Spread
-of_sought (Got v) = got v 0
-of_sought (Refused k) = stop k 0

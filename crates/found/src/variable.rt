@@ -1,15 +1,19 @@
 // The variable that a read asks for, in tables that are tested first.
-ghost use Rattle.std.specs.Prelude.{◌≡◌, cond, ◌≤◌};
+ghost use Rattle.std.specs.Prelude.{◌≡◌, cond, ℕ, ◌≤◌, ◌<◌};
+ghost use Rattle.grammar.specs.Tables.{id_at};
 ghost use Rattle.sizes.specs.Records.{chunk, record_size, max_chunk};
-ghost use Rattle.found.specs.Sought.{spread, sought, of_sought};
+ghost use Rattle.cdf.specs.Refusals.{of_result};
+ghost use Rattle.found.specs.Sought.{spread, sought};
 
 use crate::tested::tables_hold;
+use cdf::refusal::Refusal;
 use grammar::tables::{Tables, Var};
 use items::types::DataType;
 use sizes::records::{chunk_len, is_record};
 
-// The numbers that a read needs of a variable.
-#[derive(Clone, Copy)]
+// The numbers that a read needs of a variable. Its fields stay open, with no invariant: it crosses to C by words, and a caller may hand in numbers that
+// no variable has (23), as theorems and edits do.
+#[derive(Clone, Copy, Debug, PartialEq, Eq, Hash)]
 pub struct Spread {
     pub begin: u64,
     pub records: u64,
@@ -17,12 +21,6 @@ pub struct Spread {
     pub chunk: u64,
     pub width: u64,
     pub code: u8,
-}
-
-#[derive(Clone, Copy)]
-pub enum Sought {
-    Got(Spread),
-    Refused(u8),
 }
 
 // How many records a variable has: a fixed one has one.
@@ -34,7 +32,7 @@ fn records_of(records: bool, count: u64) -> u64
 
 // The numbers of a row of tables that hold.
 fn described(t: Tables, v: Var, step: u64) -> Spread
-    requires { (v.rank ≤ 8) × (1 ≤ v.code) × (v.code ≤ 6) × (chunk t.dims v ≤ max_chunk) × (step ≡ record_size t) }
+    requires { (v.rank ≤ 8) × ((k : ℕ) → k < v.rank → id_at v k < 32) × (1 ≤ v.code) × (v.code ≤ 6) × (chunk t.dims v ≤ max_chunk) × (step ≡ record_size t) }
     ensures { result ≡ spread t v }
 {
     let dims = t.dims;
@@ -42,25 +40,27 @@ fn described(t: Tables, v: Var, step: u64) -> Spread
     let kind = DataType::of_code(v.code as u64);
     Spread {
         begin: v.begin,
-        records: records_of(is_record(&dims, &v), count),
+        records: records_of(is_record(dims, v), count),
         step,
-        chunk: chunk_len(&dims, &v),
+        chunk: chunk_len(dims, v),
         width: kind.size_of(),
         code: v.code,
     }
 }
 
 // The variable `i`, for reads of it: 23 or 16 where there is none.
-pub fn seek(t: Tables, i: usize) -> Sought
-    ensures { of_sought result ≡ sought t i }
+pub fn seek(t: Tables, i: usize) -> Result<Spread, Refusal>
+    ensures { of_result result ≡ sought t i }
 {
-    let Some(step) = tables_hold(&t) else {
-        return Sought::Refused(23);
-    };
+    let tested = tables_hold(t);
+    if !tested.hold {
+        return Err(Refusal::Tables);
+    }
     if t.nvars <= i {
-        return Sought::Refused(16);
+        return Err(Refusal::NoVariable);
     }
     let vars = t.vars;
     let v = vars[i];
-    Sought::Got(described(t, v, step))
+    let step = tested.step;
+    Ok(described(t, v, step))
 }
