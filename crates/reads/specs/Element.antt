@@ -1,6 +1,6 @@
 -- Element reads (01, Records: "answers one value of the variable's type, be it a whole number, float or double, bits kept").
-use Rattle.std.specs.Prelude.{ℕ, List, [], ◌∷◌, length, get_or, ltb}
-use Rattle.cdf.specs.Step.{Step, got, stop, bind, need}
+use Rattle.std.specs.Prelude.{ℕ, ◌-◌, List, [], ◌∷◌, length, get_or, ltb}
+use Rattle.cdf.specs.Step.{Step, got, bind, need}
 use Rattle.decode.specs.Decoded.{byte, short, int, float, double}
 use Rattle.grammar.specs.declared.tables.Tables.{Tables}
 use Rattle.found.specs.Sought.{sought, sought_as}
@@ -8,14 +8,13 @@ use Rattle.reads.specs.Kept.{kept, kept_as}
 use Rattle.reads.specs.Reads.{element_at, bits, holds}
 use Rattle.found.specs.declared.variable.Spread.{Spread}
 use Rattle.reads.specs.declared.bits.Bits.{Bits}
-use Rattle.reads.specs.declared.bits.Told.{Told}
-use Rattle.reads.specs.declared.bits.Told.TheVariants.{Got, Refused as Withheld}
 use Rattle.reads.specs.declared.element.Value.{Value}
-use Rattle.reads.specs.declared.element.Value.TheVariants.{Byte, Char, Short, Int, Float, Double, Refused}
+use Rattle.reads.specs.declared.element.Value.TheVariants.{Byte, Char, Short, Int, Float, Double}
 
--- the value that bits stand for, by the code of the type from 1 on; no type has the code 0. A float and a double have their bits beside them
+-- the value that bits stand for, by the code of the type, from 1 to 6: the last is what is left. Asked of no other code. A float and a double have their
+-- bits beside them
 abbrev pub value_of : ℕ → ℕ → Value
-value_of code b = get_or (Refused 0 ∷ Byte (byte b) ∷ Char b ∷ Short (short b) ∷ Int (int b) ∷ Float (float b) b ∷ Double (double b) b ∷ []) code (Refused 0)
+value_of code b = get_or (Byte (byte b) ∷ Char b ∷ Short (short b) ∷ Int (int b) ∷ Float (float b) b ∷ []) (code - 1) (Double (double b) b)
 
 -- element e of record r of a variable that was found, as f makes it of the type's code and the bits: 18, 19, 20
 abbrev pub element_with : {A : Type 0} → (ℕ → ℕ → A) → List ℕ → ℕ → ℕ → ℕ → Spread → Step A
@@ -47,18 +46,3 @@ element_from_as code found s start r e = bind (kept_as code found) (λ v _. elem
 -- the type's code and the bits alone: 23, 18, 19, 20
 unfoldable pub bits_from : Step Spread → List ℕ → ℕ → ℕ → ℕ → Step Bits
 bits_from found s start r e = bind (kept found) (λ v _. element_with (λ code b. record { code = code; bits = b }) s start r e v)
-
--- the number and the value of each case of an element read's answer: 0 and the value, or the refusal's and none
-abbrev pub of_value : Value → Step Value
-of_value (Byte x) = got (Byte x) 0
-of_value (Char x) = got (Char x) 0
-of_value (Short x) = got (Short x) 0
-of_value (Int x) = got (Int x) 0
-of_value (Float x b) = got (Float x b) 0
-of_value (Double x b) = got (Double x b) 0
-of_value (Refused k) = stop k 0
-
--- and of the function that tells an element's bits
-abbrev pub of_told : Told → Step Bits
-of_told (Got x) = got x 0
-of_told (Withheld k) = stop k 0

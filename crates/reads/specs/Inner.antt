@@ -1,2 +1,4 @@
 -- Words of inner contracts alone: no entry's contract and no demand reaches them.
+pub mod Bounded
+pub mod Held
 pub mod Spot

@@ -1,11 +1,16 @@
 // A variable that a caller keeps between reads: each read tests its numbers, since a caller may hand in any.
+#![tactic(auto, unfolding(crate::specs::Kept::spread_holds, crate::specs::Kept::kept, crate::specs::Kept::kept_as, cdf::specs::Step::bind, cdf::specs::Step::test), using(crate::proofs::Laws::Kept::holds_bounded))]
+
 ghost use Rattle.std.specs.Prelude.{◌≡◌, ◌+◌, ◌<◌, leb};
 ghost use Rattle.sizes.specs.Records.{max_position};
 ghost use Rattle.reads.specs.Kept.{whole_bytes, spread_holds, kept, kept_as};
-ghost use Rattle.found.specs.Sought.{of_sought};
+ghost use Rattle.cdf.specs.Refusals.{of_result};
+ghost use Rattle.reads.specs.Inner.Held.{of_kept};
 
+use crate::bounded::Kept;
+use cdf::refusal::Refusal;
 use decode::room::product_within;
-use found::variable::{Sought, Spread};
+use found::variable::Spread;
 use grammar::tables::MAX_POSITION;
 use items::types::DataType;
 
@@ -45,31 +50,23 @@ fn spread_holds(v: Spread) -> bool
 }
 
 // What was found, as a read takes it.
-pub(crate) fn kept(found: Sought) -> Sought
-    ensures { of_sought result ≡ kept (of_sought found) }
+pub(crate) fn kept(found: Result<Spread, Refusal>) -> Result<Kept, Refusal>
+    ensures { of_kept result ≡ kept (of_result found) }
 {
-    match found {
-        Sought::Refused(k) => Sought::Refused(k),
-        Sought::Got(v) => {
-            if !spread_holds(v) {
-                return Sought::Refused(23);
-            }
-            Sought::Got(v)
-        }
+    let spread = found?;
+    if !spread_holds(spread) {
+        return Err(Refusal::Tables);
     }
+    Ok(Kept { spread })
 }
 
 // The same of a variable that must have the type `code`.
-pub fn kept_as(code: u8, found: Sought) -> Sought
-    ensures { of_sought result ≡ kept_as code (of_sought found) }
+pub fn kept_as(code: u8, found: Result<Spread, Refusal>) -> Result<Kept, Refusal>
+    ensures { of_kept result ≡ kept_as code (of_result found) }
 {
-    match kept(found) {
-        Sought::Refused(k) => Sought::Refused(k),
-        Sought::Got(v) => {
-            if v.code != code {
-                return Sought::Refused(17);
-            }
-            Sought::Got(v)
-        }
+    let v = kept(found)?;
+    if v.spread.code != code {
+        return Err(Refusal::OtherType);
     }
+    Ok(v)
 }

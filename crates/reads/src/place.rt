@@ -1,45 +1,28 @@
 // Where a variable's elements stand in the window.
-ghost use Rattle.std.specs.Prelude.{◌≡◌};
-ghost use Rattle.reads.specs.Reads.{holds};
-ghost use Rattle.reads.specs.Inner.Spot.{of_spot, Bounded, element_spot};
+#![tactic(auto, unfolding(crate::specs::Inner::Spot::element_spot, cdf::specs::Step::test), using(crate::proofs::Laws::Reads::held))]
 
-use found::variable::Spread;
+ghost use Rattle.std.specs.Prelude.{◌≡◌, length};
+ghost use Rattle.cdf.specs.Refusals.{of_result};
+ghost use Rattle.reads.specs.Inner.Spot.{element_spot};
 
-#[derive(Clone, Copy)]
-pub enum Spot {
-    At(usize),
-    Refused(u8),
-}
-
-// Whether a window of `have` bytes from the position `start` holds the `n` bytes from the position `at`.
-pub fn holds(have: usize, start: u64, at: u64, n: u64) -> bool
-    ensures { result ≡ holds have start at n }
-{
-    if at < start {
-        return false;
-    }
-    let skipped = at - start;
-    let held = have as u64;
-    if held < skipped {
-        return false;
-    }
-    n <= held - skipped
-}
+use crate::bounded::Kept;
+use crate::window::Window;
+use cdf::refusal::Refusal;
 
 // Element `e` of record `r`.
-pub(crate) fn element_spot(v: Spread, have: usize, start: u64, r: u64, e: u64) -> Spot
-    requires { Bounded v }
-    ensures { of_spot result ≡ element_spot v have start r e }
+pub(crate) fn element_spot(kept: Kept, window: Window, r: u64, e: u64) -> Result<usize, Refusal>
+    ensures { of_result result ≡ element_spot kept.spread (length window.entry.bytes.now) window.entry.start r e }
 {
+    let v = kept.spread;
     if v.records <= r {
-        return Spot::Refused(18);
+        return Err(Refusal::NoRecord);
     }
     if v.chunk <= e {
-        return Spot::Refused(19);
+        return Err(Refusal::NoElement);
     }
     let at = v.begin + r * v.step + e * v.width;
-    if !holds(have, start, at, v.width) {
-        return Spot::Refused(20);
+    if !window.holds(at, v.width) {
+        return Err(Refusal::Window);
     }
-    Spot::At((at - start) as usize)
+    Ok((at - window.start) as usize)
 }

@@ -15,7 +15,7 @@ use Rattle.found.specs.Sought.{spread, sought}
 use Rattle.found.proofs.Laws.Sought.{Holds, tables-parts}
 use Rattle.cdf.specs.Step.{got}
 use Rattle.cdf.proofs.Laws.Step.{test-came, got_same}
-use Rattle.reads.specs.Inner.Spot.{Bounded}
+use Rattle.reads.specs.Inner.Bounded.{Bounded}
 use Rattle.found.specs.declared.variable.Spread.{Spread}
 
 ends-bound : (records : Bool) (begin padded step n bytes r : ℕ) → bytes ≤ padded → cond records (cond (eqb n 0) begin (begin + (n - 1) * step + padded)) (begin + padded) ≤ max_position → r < cond records n 1

@@ -1,71 +1,29 @@
 -- Laws of a variable that is kept: its test, its answers, and that one which was found passes.
-use Prim.Native.Nat.{ℕ, ◌+◌, ◌-◌, ◌*◌, ◌≤◌, ◌<◌}
+use Prim.Native.Nat.{ℕ, ◌+◌, ◌-◌, ◌*◌, ◌≤◌}
 use native.Mathlib.Omega.{arith}
 use native.Mathlib.Nat.{mul-le-mul_right}
 use mathlib.Core.Path.{◌≡◌, refl, sym, ap, subst, ◌∙◌}
-use mathlib.Core.Bool.{Bool, true, false, ◌||◌}
-use mathlib.Core.Logic.{⊎_elim}
+use mathlib.Core.Bool.{Bool, true, false, ◌&&◌, ◌||◌}
 use lib.Dec.{leb, eqb}
-use borrow.Author.Tests.{lt-leb, le-leb, leb-true, leb-false, eq-eqb, ne_eqb, eqb-true, eqb-false}
+use borrow.Author.Tests.{le-leb, leb-true, eq-eqb, ne_eqb, eqb-true, eqb-false}
+use Rattle.cdf.specs.Below.{between}
 use Rattle.cdf.specs.Step.{Step, got, stop, bind}
-use Rattle.cdf.proofs.Laws.Below.{both, order}
-use Rattle.cdf.proofs.Laws.Step.{by-true, by-false, by-got, by-stop, bind-came, test-came, got_same}
+use Rattle.cdf.proofs.Laws.Below.{both}
+use Rattle.cdf.proofs.Laws.Step.{by-true, bind-came, test-came, got_same}
 use Rattle.items.specs.Types.{size_of}
 use Rattle.sizes.specs.Records.{max_position}
 use Rattle.grammar.specs.declared.tables.Tables.{Tables}
 use Rattle.found.specs.Sought.{sought, sought_as}
 use Rattle.reads.specs.Kept.{whole_bytes, spread_holds, kept, kept_as}
-use Rattle.reads.specs.Inner.Spot.{Bounded}
+use Rattle.reads.specs.Inner.Bounded.{Bounded}
 use Rattle.found.specs.declared.variable.Spread.{Spread}
 use Rattle.reads.proofs.Laws.Bounded.{found}
 
--- ---- the end of the last value, found without a sum or a product that wraps
 module _ (v : Spread) where
-  pub ends-begin : max_position < v.begin → false ≡ leb (v.begin + whole_bytes v) max_position
-  ends-begin h = sym (lt-leb (v.begin + whole_bytes v) max_position (omega arith))
-
-  module _ (begins : v.begin ≤ max_position) where
-    pub ends-chunk : leb (v.chunk * v.width) (max_position - v.begin) ≡ false → false ≡ leb (v.begin + whole_bytes v) max_position
-    ends-chunk h = let l : max_position - v.begin < v.chunk * v.width = leb-false _ _ h in sym (lt-leb (v.begin + whole_bytes v) max_position (omega arith))
-
-    pub ends_last : v.chunk * v.width ≤ max_position - v.begin → leb ((v.records - 1) * v.step) (max_position - v.begin - v.chunk * v.width) ≡ leb (v.begin + whole_bytes v) max_position
-    ends_last l =
-        ⊎_elim
-        (λ (q : (v.records - 1) * v.step ≤ max_position - v.begin - v.chunk * v.width).
-        le-leb _ _ q ∙ sym (le-leb (v.begin + whole_bytes v) max_position (omega arith)))
-        (λ (q : max_position - v.begin - v.chunk * v.width < (v.records - 1) * v.step).
-        lt-leb _ _ q ∙ sym (lt-leb (v.begin + whole_bytes v) max_position (omega arith)))
-        (order ((v.records - 1) * v.step) (max_position - v.begin - v.chunk * v.width))
-
--- ---- the test, one part after the other
-module _ (v : Spread) where
-  pub spread-low : v.code < 1 → false ≡ spread_holds v
-  unfolding spread_holds
-  spread-low h = sym (rw (lt-leb 1 v.code h))
-
-  module _ (low : 1 ≤ v.code) where
-    pub spread-high : 6 < v.code → false ≡ spread_holds v
-    unfolding spread_holds
-    spread-high h = sym (rw (le-leb 1 v.code low, lt-leb v.code 6 h))
-
-    module _ (high : v.code ≤ 6) where
-      pub spread-width : (v.width ≡ size_of v.code → ⊥) → false ≡ spread_holds v
-      unfolding spread_holds
-      spread-width n = sym (rw (le-leb 1 v.code low, le-leb v.code 6 high, ne_eqb v.width (size_of v.code) n))
-
-      module _ (width : v.width ≡ size_of v.code) where
-        pub spread_none : v.records ≡ 0 → true ≡ spread_holds v
-        unfolding spread_holds
-        spread_none e = sym (rw (le-leb 1 v.code low, le-leb v.code 6 high, eq-eqb v.width (size_of v.code) width, eq-eqb v.records 0 e))
-
-        pub spread-ends : (v.records ≡ 0 → ⊥) → leb (v.begin + whole_bytes v) max_position ≡ spread_holds v
-        unfolding spread_holds
-        spread-ends n = sym (rw (le-leb 1 v.code low, le-leb v.code 6 high, eq-eqb v.width (size_of v.code) width, ne_eqb v.records 0 n))
-
   -- the test says that no position wraps, and no more
-  pub holds-bounded : spread_holds v ≡ true → Bounded v
+  pub holds_bounded : spread_holds v ≡ true → Bounded v
   unfolding spread_holds
-  holds-bounded e =
+  holds_bounded e =
       let p = both _ _ e in
       let q = both _ _ p.1 in
       let c = both _ _ p.0 in
@@ -82,51 +40,26 @@ module _ (v : Spread) where
       }
 
   pub bounded-holds : Bounded v → spread_holds v ≡ true
+  unfolding spread_holds
   bounded-holds b = by (eqb v.records 0) refl
     where
-      by : (none : Bool) → eqb v.records 0 ≡ none → spread_holds v ≡ true
-      by true e = sym (spread_none b.low b.high b.size (eqb-true _ _ e))
+      by : (none : Bool) → eqb v.records 0 ≡ none → between 1 6 v.code && (eqb v.width (size_of v.code) && (none || leb (v.begin + whole_bytes v) max_position)) ≡ true
+      by true e = rw (le-leb 1 v.code b.low, le-leb v.code 6 b.high, eq-eqb v.width (size_of v.code) b.size)
       by false e =
           let n = eqb-false v.records 0 e in
           let last = b.ends (v.records - 1) (omega arith) in
-          sym (spread-ends b.low b.high b.size n) ∙ le-leb (v.begin + whole_bytes v) max_position (omega arith)
+          rw (le-leb 1 v.code b.low, le-leb v.code 6 b.high, eq-eqb v.width (size_of v.code) b.size) (le-leb (v.begin + whole_bytes v) max_position (omega arith))
 
 -- ---- the answers
 module _ (m : Step Spread) where
-  pub kept-stop : {k p : ℕ} → stop k p ≡ m → stop k p ≡ kept m
-  unfolding kept
-  kept-stop e = by-stop _ e
-
-  module _ {v : Spread} (is : got v 0 ≡ m) where
-    pub kept-broken : spread_holds v ≡ false → stop 23 0 ≡ kept m
-    unfolding kept
-    kept-broken e = by-got _ _ is (by-false _ e refl)
-
-    pub kept-got : spread_holds v ≡ true → got v 0 ≡ kept m
-    unfolding kept
-    kept-got e = by-got _ _ is (by-true _ e refl)
-
   pub kept-bounded : {v : Spread} {n : ℕ} → got v n ≡ kept m → Bounded v
   unfolding kept
   kept-bounded {v} e =
       bind-came m _ e (Bounded v) (λ u n f g.
       let q = test-came 23 0 g in
-      subst (λ (x : Spread). Bounded x) (sym (got_same q.1)) (holds-bounded u q.0))
+      subst (λ (x : Spread). Bounded x) (sym (got_same q.1)) (holds_bounded u q.0))
 
   module _ (code : ℕ) where
-    pub as-stop : {k p : ℕ} → stop k p ≡ kept m → stop k p ≡ kept_as code m
-    unfolding kept_as
-    as-stop e = by-stop _ e
-
-    module _ {v : Spread} (is : got v 0 ≡ kept m) where
-      pub as-other : (v.code ≡ code → ⊥) → stop 17 0 ≡ kept_as code m
-      unfolding kept_as
-      as-other n = by-got _ _ is (by-false _ (ne_eqb v.code code n) refl)
-
-      pub as-got : v.code ≡ code → got v 0 ≡ kept_as code m
-      unfolding kept_as
-      as-got e = by-got _ _ is (by-true _ (eq-eqb v.code code e) refl)
-
     pub as-came : {v : Spread} {n : ℕ} → got v n ≡ kept_as code m → Bounded v × (v.code ≡ code)
     unfolding kept_as
     as-came {v} e =

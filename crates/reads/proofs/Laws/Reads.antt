@@ -2,41 +2,21 @@
 use Prim.Native.Nat.{ℕ, zero, suc, ◌+◌, ◌-◌, ◌*◌, ◌≤◌, ◌<◌}
 use native.Mathlib.Omega.{arith}
 use native.Mathlib.Nat.{le_refl, zero-mul}
-use mathlib.Core.Path.{◌≡◌, refl, sym, subst, ◌∙◌}
-use mathlib.Core.Bool.{Bool, true, false, and-false, ◌||◌}
+use mathlib.Core.Path.{◌≡◌, refl, sym, subst}
+use mathlib.Core.Bool.{Bool, true, false, ◌||◌}
 use mathlib.Core.List.{List}
 use lib.ListN.{get_or}
 use lib.Dec.{leb, eqb}
-use borrow.Author.Tests.{lt-ltb, le-ltb, le-leb, lt-leb, leb-true, ne_eqb, eqb-false}
-use mathlib.Core.Logic.{⊎_elim}
+use borrow.Author.Tests.{le-leb, leb-true, ne_eqb, eqb-false}
 use Rattle.bigendian.specs.Number.{be}
-use Rattle.cdf.proofs.Laws.Below.{order, both}
-use Rattle.cdf.specs.Step.{got, stop}
-use Rattle.cdf.proofs.Laws.Step.{by-true, by-false}
+use Rattle.cdf.proofs.Laws.Below.{both}
 use Rattle.bigendian.proofs.Laws.Lists.{row_in}
 use Rattle.decode.proofs.Laws.Room.{every-record}
-use Rattle.reads.specs.Reads.{record_at, element_at, holds}
+use Rattle.reads.specs.Reads.{record_at, holds}
 use Rattle.reads.specs.Kept.{whole_bytes}
-use Rattle.reads.specs.Inner.Spot.{element_spot}
 use Rattle.found.specs.declared.variable.Spread.{Spread}
 
 module _ (have start at n : ℕ) where
-  pub holds-before : at < start → false ≡ holds have start at n
-  unfolding holds
-  holds-before h = sym (rw (lt-leb start at h))
-
-  pub holds-past : start ≤ at → have < at - start → false ≡ holds have start at n
-  unfolding holds
-  holds-past h l = let past : start + have < at + n = omega arith in sym (rw (lt-leb (at + n) (start + have) past) (and-false (leb start at)))
-
-  pub holds_by : start ≤ at → at - start ≤ have → leb n (have - (at - start)) ≡ holds have start at n
-  unfolding holds
-  holds_by h l =
-      ⊎_elim
-      (λ (q : n ≤ have - (at - start)). let r : at + n ≤ start + have = omega arith in le-leb n _ q ∙ sym (rw (le-leb start at h) (le-leb (at + n) (start + have) r)))
-      (λ (q : have - (at - start) < n). let r : start + have < at + n = omega arith in lt-leb n _ q ∙ sym (rw (le-leb start at h) (lt-leb (at + n) (start + have) r)))
-      (order n (have - (at - start)))
-
   -- bytes that are held start in the window and end in it
   pub held : true ≡ holds have start at n → (start ≤ at) × (at + n ≤ start + have)
   unfolding holds
@@ -86,22 +66,3 @@ same_number (suc k) s s' start start' at h l e =
     let b' : at - start' + k ≡ at + k - start' = omega arith in
     let c = e (at + k) (omega arith) (omega arith) in
     rw (b, b', a, c)
-
-module _ (v : Spread) (have start r e : ℕ) where
-  pub spot-record : v.records ≤ r → stop 18 0 ≡ element_spot v have start r e
-  unfolding element_spot
-  spot-record h = by-false _ (le-ltb r v.records h) refl
-
-  module _ (some : r < v.records) where
-    pub spot-element : v.chunk ≤ e → stop 19 0 ≡ element_spot v have start r e
-    unfolding element_spot
-    spot-element h = by-true _ (lt-ltb r v.records some) (by-false _ (le-ltb e v.chunk h) refl)
-
-    module _ (inside : e < v.chunk) where
-      pub spot-window : false ≡ holds have start (element_at v r e) v.width → stop 20 0 ≡ element_spot v have start r e
-      unfolding element_spot
-      spot-window h = by-true _ (lt-ltb r v.records some) (by-true _ (lt-ltb e v.chunk inside) (by-false _ (sym h) refl))
-
-      pub spot-at : true ≡ holds have start (element_at v r e) v.width → got (element_at v r e - start) 0 ≡ element_spot v have start r e
-      unfolding element_spot
-      spot-at h = by-true _ (lt-ltb r v.records some) (by-true _ (lt-ltb e v.chunk inside) (by-true _ (sym h) refl))
