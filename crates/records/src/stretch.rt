@@ -1,16 +1,19 @@
 // The records that a read decodes, as places in the window.
-ghost use Rattle.std.specs.Prelude.{◌≡◌};
-ghost use Rattle.reads.specs.Inner.Spot.{Bounded};
-ghost use Rattle.found.specs.Sought.{of_sought};
-ghost use Rattle.records.specs.Inner.Stretch.{of_stretched, record_stretch, whole_stretch, record_placed, whole_placed};
+#![tactic(auto, unfolding(crate::specs::Inner::Stretch::record_stretch, crate::specs::Inner::Stretch::whole_stretch, crate::specs::Inner::Stretch::record_placed, crate::specs::Inner::Stretch::whole_placed, cdf::specs::Step::bind, cdf::specs::Step::test), using(reads::proofs::Laws::Reads::held, crate::proofs::Laws::Stretch::last_in))]
 
+ghost use Rattle.std.specs.Prelude.{◌≡◌, length};
+ghost use Rattle.cdf.specs.Refusals.{of_result};
+ghost use Rattle.records.specs.Inner.Stretch.{record_stretch, whole_stretch, record_placed, whole_placed};
+
+use cdf::refusal::Refusal;
 use decode::room::product_within;
-use found::variable::{Sought, Spread};
+use found::variable::Spread;
+use reads::bounded::Kept;
 use reads::kept::kept_as;
-use reads::place::holds;
+use reads::window::Window;
 
 // `count` chunks of `chunk` elements, the first at `at`, one `stride` bytes after the other.
-#[derive(Clone, Copy)]
+#[derive(Clone, Copy, Debug, PartialEq, Eq, Hash)]
 pub struct Stretch {
     pub at: usize,
     pub count: usize,
@@ -18,29 +21,23 @@ pub struct Stretch {
     pub stride: usize,
 }
 
-#[derive(Clone, Copy)]
-pub enum Stretched {
-    Got(Stretch),
-    Refused(u8),
-}
-
 // The chunk of record `r`, for an output of `room` elements.
-fn record_stretch(v: Spread, have: usize, start: u64, r: u64, room: usize) -> Stretched
-    requires { Bounded v }
-    ensures { of_stretched result ≡ record_stretch v have start r room }
+fn record_stretch(kept: Kept, window: Window, r: u64, room: usize) -> Result<Stretch, Refusal>
+    ensures { of_result result ≡ record_stretch kept.spread (length window.entry.bytes.now) window.entry.start r room }
 {
+    let v = kept.spread;
     if v.records <= r {
-        return Stretched::Refused(18);
+        return Err(Refusal::NoRecord);
     }
     let at = v.begin + r * v.step;
-    if !holds(have, start, at, v.chunk * v.width) {
-        return Stretched::Refused(20);
+    if !window.holds(at, v.chunk * v.width) {
+        return Err(Refusal::Window);
     }
     if (room as u64) < v.chunk {
-        return Stretched::Refused(22);
+        return Err(Refusal::OutputRoom);
     }
-    Stretched::Got(Stretch {
-        at: (at - start) as usize,
+    Ok(Stretch {
+        at: (at - window.start) as usize,
         count: 1,
         chunk: v.chunk as usize,
         stride: v.step as usize,
@@ -48,60 +45,56 @@ fn record_stretch(v: Spread, have: usize, start: u64, r: u64, room: usize) -> St
 }
 
 // All records, for an output of `room` elements.
-fn whole_stretch(v: Spread, have: usize, start: u64, room: usize) -> Stretched
-    requires { Bounded v }
-    ensures { of_stretched result ≡ whole_stretch v have start room }
+fn whole_stretch(kept: Kept, window: Window, room: usize) -> Result<Stretch, Refusal>
+    ensures { of_result result ≡ whole_stretch kept.spread (length window.entry.bytes.now) window.entry.start room }
 {
+    let v = kept.spread;
+    let chunk = v.chunk as usize;
+    let stride = v.step as usize;
     if v.records == 0 {
-        return Stretched::Got(Stretch {
+        return Ok(Stretch {
             at: 0,
             count: 0,
-            chunk: v.chunk as usize,
-            stride: v.step as usize,
+            chunk,
+            stride,
         });
     }
-    if !holds(
-        have,
-        start,
-        v.begin,
-        (v.records - 1) * v.step + v.chunk * v.width,
-    ) {
-        return Stretched::Refused(20);
+    if !window.holds(v.begin, (v.records - 1) * v.step + v.chunk * v.width) {
+        return Err(Refusal::Window);
     }
-    if !product_within(v.records as usize, v.chunk as usize, room) {
-        return Stretched::Refused(22);
+    let count = v.records as usize;
+    if !product_within(count, chunk, room) {
+        return Err(Refusal::OutputRoom);
     }
-    Stretched::Got(Stretch {
-        at: (v.begin - start) as usize,
-        count: v.records as usize,
-        chunk: v.chunk as usize,
-        stride: v.step as usize,
+    Ok(Stretch {
+        at: (v.begin - window.start) as usize,
+        count,
+        chunk,
+        stride,
     })
 }
 
 // The chunk of record `r` of what was found, which must have the type `code`.
 pub(crate) fn record_of(
     code: u8,
-    found: Sought,
-    have: usize,
-    start: u64,
+    found: Result<Spread, Refusal>,
+    window: Window,
     r: u64,
     room: usize,
-) -> Stretched
-    ensures { of_stretched result ≡ record_placed code (of_sought found) have start r room }
+) -> Result<Stretch, Refusal>
+    ensures { of_result result ≡ record_placed code (of_result found) (length window.entry.bytes.now) window.entry.start r room }
 {
-    match kept_as(code, found) {
-        Sought::Refused(k) => Stretched::Refused(k),
-        Sought::Got(v) => record_stretch(v, have, start, r, room),
-    }
+    record_stretch(kept_as(code, found)?, window, r, room)
 }
 
 // All records of what was found, which must have the type `code`.
-pub(crate) fn whole_of(code: u8, found: Sought, have: usize, start: u64, room: usize) -> Stretched
-    ensures { of_stretched result ≡ whole_placed code (of_sought found) have start room }
+pub(crate) fn whole_of(
+    code: u8,
+    found: Result<Spread, Refusal>,
+    window: Window,
+    room: usize,
+) -> Result<Stretch, Refusal>
+    ensures { of_result result ≡ whole_placed code (of_result found) (length window.entry.bytes.now) window.entry.start room }
 {
-    match kept_as(code, found) {
-        Sought::Refused(k) => Stretched::Refused(k),
-        Sought::Got(v) => whole_stretch(v, have, start, room),
-    }
+    whole_stretch(kept_as(code, found)?, window, room)
 }

@@ -54,11 +54,6 @@ pub decoder-asks : {w room : ℕ} (s : List ℕ) {x : Stretch} → Fits w (lengt
 decoder-asks s {x} f =
     (f.roomy, λ k l. let e = mid_len x.at (length s) s (omega arith) in let q = f.each k l in omega arith)
 
--- in the words of a decoder of single bytes
-pub byte-decoder-asks : {room : ℕ} (s : List ℕ) {x : Stretch} → Fits 1 (length s) room x
-    → (x.count * x.chunk ≤ room) × ((k : ℕ) → k < x.count → k * x.stride + x.chunk ≤ length (take (length s - x.at) (drop x.at s)))
-byte-decoder-asks s {x} f = let a = decoder-asks s f in (a.0, λ k l. let q = a.1 k l in let o = one-mul x.chunk in omega arith)
-
 module _ (v : Spread) (w : ℕ) (width : v.width ≡ w) (have start room : ℕ) where
   bytes : v.chunk * v.width ≡ w * v.chunk
   bytes = rw width (mul_comm v.chunk w)
@@ -92,14 +87,14 @@ module _ (v : Spread) (w : ℕ) (width : v.width ≡ w) (have start room : ℕ) 
       subst (λ (x : Stretch). Fits w have room x) (sym (got_same c.1))
       (record { inside = omega arith; roomy = leb-true _ _ c.0; each = every-record v.records v.step (w * v.chunk) _ last }))
 
-module _ (code : ℕ) (found : Step Spread) (have start room : ℕ) where
-  pub record-of-fits : (r : ℕ) {x : Stretch} {n : ℕ} → got x n ≡ record_placed code found have start r room → Fits (size_of code) have room x
+module _ (code : ℕ) (found : Step Spread) (have start room : ℕ) {w : ℕ} (sized : size_of code ≡ w) where
+  pub record-of-fits : (r : ℕ) {x : Stretch} {n : ℕ} → got x n ≡ record_placed code found have start r room → Fits w have room x
   unfolding record_placed
-  record-of-fits r {x} e = bind-came (kept_as code found) _ e _ (λ v m f g. record-fits v _ (typed-width code found f) have start room r g)
+  record-of-fits r {x} e = bind-came (kept_as code found) _ e _ (λ v m f g. record-fits v w (typed-width code found f ∙ sized) have start room r g)
 
-  pub whole-of-fits : {x : Stretch} {n : ℕ} → got x n ≡ whole_placed code found have start room → Fits (size_of code) have room x
+  pub whole-of-fits : {x : Stretch} {n : ℕ} → got x n ≡ whole_placed code found have start room → Fits w have room x
   unfolding whole_placed
-  whole-of-fits {x} e = bind-came (kept_as code found) _ e _ (λ v m f g. whole-fits v _ (typed-width code found f) have start room g)
+  whole-of-fits {x} e = bind-came (kept_as code found) _ e _ (λ v m f g. whole-fits v w (typed-width code found f ∙ sized) have start room g)
 
 -- ---- the output
 module _ {A : Type 0} (F : ℕ → A) (s : List ℕ) (start : ℕ) (out : List A) (v : Spread) (w : ℕ) (width : v.width ≡ w) where
@@ -151,8 +146,8 @@ module _ {A : Type 0} (F : ℕ → A) (s : List ℕ) (start : ℕ) (out : List A
       ∙ test-same (leb (v.records * v.chunk) (length out)) (stop 22 0) (λ _. ap (λ (l : List A). got (l ++ drop (v.records * v.chunk) out) 0) (whole-list h)))
 
 -- ---- the reads
-module _ {A : Type 0} (F : ℕ → A) (code : ℕ) (found : Step Spread) (s : List ℕ) (start : ℕ) (out : List A) where
-  record_is : (r : ℕ) → filled F (size_of code) s out (record_placed code found (length s) start r (length out)) ≡ record_from F code found s start r out
+module _ {A : Type 0} (F : ℕ → A) (code : ℕ) (found : Step Spread) (s : List ℕ) (start : ℕ) (out : List A) {w : ℕ} (sized : size_of code ≡ w) where
+  record_is : (r : ℕ) → filled F w s out (record_placed code found (length s) start r (length out)) ≡ record_from F code found s start r out
   unfolding filled record_placed record_from record_stretch bind
   record_is r =
       bind-bind (kept_as code found) _ _
@@ -161,16 +156,16 @@ module _ {A : Type 0} (F : ℕ → A) (code : ℕ) (found : Step Spread) (s : Li
       ∙ test-same (ltb r v.records) (stop 18 0) (λ _.
       bind-test (holds (length s) start (record_at v r) (v.chunk * v.width)) _ _ _
       ∙ test-same _ (stop 20 0) (λ h.
-      bind-test (leb v.chunk (length out)) _ _ _ ∙ test-same _ (stop 22 0) (λ _. ap (λ (l : List A). got l 0) (record-list F s start out v _ (typed-width code found e) r h)))))
+      bind-test (leb v.chunk (length out)) _ _ _ ∙ test-same _ (stop 22 0) (λ _. ap (λ (l : List A). got l 0) (record-list F s start out v _ (typed-width code found e ∙ sized) r h)))))
 
-  whole_is : filled F (size_of code) s out (whole_placed code found (length s) start (length out)) ≡ whole_from F code found s start out
+  whole_is : filled F w s out (whole_placed code found (length s) start (length out)) ≡ whole_from F code found s start out
   unfolding filled whole_placed whole_from whole_stretch
   whole_is =
       bind-bind (kept_as code found) _ _
-      ∙ bind-same (kept_as code found) _ _ (λ v n e. whole-step F s start out v _ (typed-width code found e) (eqb v.records 0) refl)
+      ∙ bind-same (kept_as code found) _ _ (λ v n e. whole-step F s start out v _ (typed-width code found e ∙ sized) (eqb v.records 0) refl)
 
   -- the number and the output, by the stretch that was placed or by the refusal
-  module _ (m : Step Stretch) (w : ℕ) where
+  module _ (m : Step Stretch) where
     filled-stop : {k : ℕ} → stop k 0 ≡ m → (k ≡ number_of (filled F w s out m)) × (out ≡ given_or out (filled F w s out m))
     unfolding filled bind
     filled-stop e = (ap (λ n. number_of (filled F w s out n)) e, ap (λ n. given_or out (filled F w s out n)) e)
@@ -182,17 +177,17 @@ module _ {A : Type 0} (F : ℕ → A) (code : ℕ) (found : Step Spread) (s : Li
     filled-got e q = (ap (λ n. number_of (filled F w s out n)) e, q ∙ ap (λ n. given_or out (filled F w s out n)) e)
 
   pub record-stop : {k : ℕ} (r : ℕ) → stop k 0 ≡ record_placed code found (length s) start r (length out) → (k ≡ number_of (record_from F code found s start r out)) × (out ≡ given_or out (record_from F code found s start r out))
-  record-stop {k} r e = subst (λ (y : Step (List A)). (k ≡ number_of y) × (out ≡ given_or out y)) (record_is r) (filled-stop _ _ e)
+  record-stop {k} r e = subst (λ (y : Step (List A)). (k ≡ number_of y) × (out ≡ given_or out y)) (record_is r) (filled-stop _ e)
 
   pub record-got : {x : Stretch} {new : List A} (r : ℕ) → got x 0 ≡ record_placed code found (length s) start r (length out)
-      → new ≡ grid (of_record F (size_of code) (take (length s - x.at) (drop x.at s)) x.stride) x.chunk x.count ++ drop (x.count * x.chunk) out
+      → new ≡ grid (of_record F w (take (length s - x.at) (drop x.at s)) x.stride) x.chunk x.count ++ drop (x.count * x.chunk) out
       → (0 ≡ number_of (record_from F code found s start r out)) × (new ≡ given_or out (record_from F code found s start r out))
-  record-got {new = new} r e q = subst (λ (y : Step (List A)). (0 ≡ number_of y) × (new ≡ given_or out y)) (record_is r) (filled-got _ _ e q)
+  record-got {new = new} r e q = subst (λ (y : Step (List A)). (0 ≡ number_of y) × (new ≡ given_or out y)) (record_is r) (filled-got _ e q)
 
   pub whole-stop : {k : ℕ} → stop k 0 ≡ whole_placed code found (length s) start (length out) → (k ≡ number_of (whole_from F code found s start out)) × (out ≡ given_or out (whole_from F code found s start out))
-  whole-stop {k} e = subst (λ (y : Step (List A)). (k ≡ number_of y) × (out ≡ given_or out y)) whole_is (filled-stop _ _ e)
+  whole-stop {k} e = subst (λ (y : Step (List A)). (k ≡ number_of y) × (out ≡ given_or out y)) whole_is (filled-stop _ e)
 
   pub whole-got : {x : Stretch} {new : List A} → got x 0 ≡ whole_placed code found (length s) start (length out)
-      → new ≡ grid (of_record F (size_of code) (take (length s - x.at) (drop x.at s)) x.stride) x.chunk x.count ++ drop (x.count * x.chunk) out
+      → new ≡ grid (of_record F w (take (length s - x.at) (drop x.at s)) x.stride) x.chunk x.count ++ drop (x.count * x.chunk) out
       → (0 ≡ number_of (whole_from F code found s start out)) × (new ≡ given_or out (whole_from F code found s start out))
-  whole-got {new = new} e q = subst (λ (y : Step (List A)). (0 ≡ number_of y) × (new ≡ given_or out y)) whole_is (filled-got _ _ e q)
+  whole-got {new = new} e q = subst (λ (y : Step (List A)). (0 ≡ number_of y) × (new ≡ given_or out y)) whole_is (filled-got _ e q)

@@ -1,19 +1,12 @@
 -- The records that a read decodes, as places in the window.
 use Rattle.std.specs.Prelude.{ℕ, ◌-◌, ◌*◌, List, ◌++◌, length, take, drop, ltb, leb, eqb}
 use Rattle.bigendian.specs.Lists.{grid}
-use Rattle.cdf.specs.Step.{Step, got, stop, bind, test, need}
+use Rattle.cdf.specs.Step.{Step, got, bind, test, need}
 use Rattle.decode.specs.Inner.Chunks.{of_record}
 use Rattle.reads.specs.Kept.{whole_bytes, kept_as}
 use Rattle.reads.specs.Reads.{record_at, holds}
 use Rattle.found.specs.declared.variable.Spread.{Spread}
 use Rattle.records.specs.declared.stretch.Stretch.{Stretch}
-use Rattle.records.specs.declared.stretch.Stretched.{Stretched}
-use Rattle.records.specs.declared.stretch.Stretched.TheVariants.{Got, Refused}
-
--- what the answer of a function that places records means
-abbrev pub of_stretched : Stretched → Step Stretch
-of_stretched (Got x) = got x 0
-of_stretched (Refused k) = stop k 0
 
 -- the chunk of one record: 18, 20, 22
 unfoldable pub record_stretch : Spread → ℕ → ℕ → ℕ → ℕ → Step Stretch
