@@ -6,35 +6,43 @@ ghost use Rattle.cdf.specs.Step.{Leaves, got};
 ghost use Rattle.decode.specs.Decoded.{float, double};
 ghost use Rattle.reads.specs.Reads.{whole_from};
 
-use found::variable::{Sought, Spread};
-use records::whole::{read_whole_f32, read_whole_f64};
+use cdf::refusal::Refusal;
+use decode::element::Element;
+use found::variable::Spread;
+use reads::window::Window;
+use records::whole::read_whole;
 
-// All floats of a fixed variable that has `count` of them from the file's position `begin` on; `window` starts at `start`.
+// All elements of a fixed variable that has `count` of them from the file's position `begin` on; `window` starts at `start`.
+fn values<T: Element>(begin: u64, count: u64, window: &[u8], start: u64, out: &mut [T]) -> u8
+    ensures { Leaves out.old (whole_from T.value T.CODE (got (record { begin = begin; records = 1; step = 0; chunk = count; width = T.WIDTH; code = T.CODE }) 0) window.now start out.old) result out.new }
+{
+    let fixed = Spread {
+        begin,
+        records: 1,
+        step: 0,
+        chunk: count,
+        width: T::WIDTH as u64,
+        code: T::CODE,
+    };
+    let window = Window {
+        bytes: window,
+        start,
+    };
+    read_whole(Ok(fixed), window, out)
+        .err()
+        .map_or(0, Refusal::number)
+}
+
+// Floats.
 pub fn fungal_values_f32(begin: u64, count: u64, window: &[u8], start: u64, out: &mut [f32]) -> u8
     ensures { Leaves out.old (whole_from float 5 (got (record { begin = begin; records = 1; step = 0; chunk = count; width = 4; code = 5 }) 0) window.now start out.old) result out.new }
 {
-    let floats = Spread {
-        begin,
-        records: 1,
-        step: 0,
-        chunk: count,
-        width: 4,
-        code: 5,
-    };
-    read_whole_f32(Sought::Got(floats), window, start, out)
+    values(begin, count, window, start, out)
 }
 
-// The same of doubles.
+// Doubles.
 pub fn fungal_values_f64(begin: u64, count: u64, window: &[u8], start: u64, out: &mut [f64]) -> u8
     ensures { Leaves out.old (whole_from double 6 (got (record { begin = begin; records = 1; step = 0; chunk = count; width = 8; code = 6 }) 0) window.now start out.old) result out.new }
 {
-    let doubles = Spread {
-        begin,
-        records: 1,
-        step: 0,
-        chunk: count,
-        width: 8,
-        code: 6,
-    };
-    read_whole_f64(Sought::Got(doubles), window, start, out)
+    values(begin, count, window, start, out)
 }

@@ -4,7 +4,8 @@ ghost use Rattle.outputs.specs.Outputs.{TellsElement};
 ghost use Rattle.exports.specs.Variable.{taken};
 
 use crate::variable::taken;
-use reads::bits::{Bits, Told, read_bits};
+use reads::bits::read_bits;
+use reads::window::Window;
 
 // Element `e` of record `r`: the code of its type, and its bits.
 pub fn fungal_read_element(
@@ -18,9 +19,13 @@ pub fn fungal_read_element(
 ) -> u8
     ensures { TellsElement (bits_from (taken var.now) window.now start r e) result code.old code.new bits.old bits.new }
 {
-    match read_bits(taken(var), window, start, r, e) {
-        Told::Refused(k) => k,
-        Told::Got(x) => {
+    let window = Window {
+        bytes: window,
+        start,
+    };
+    match read_bits(taken(var), window, r, e) {
+        Err(k) => k.number(),
+        Ok(x) => {
             *code = x.code as u64;
             *bits = x.bits;
             0
