@@ -2,6 +2,7 @@
 pub mod Step
 pub mod Place
 pub mod Below
+pub mod Refusals
 pub mod Word
 pub mod Magic
 pub mod Padding

@@ -37,8 +37,8 @@ fn put(v: Spread, out: &mut [u64]) -> Result<(), Refusal>
     Ok(())
 }
 
-fn place(t: Tables, i: usize, var: &mut [u64]) -> Result<(), Refusal>
-    ensures { Leaves var.old (bind (sought t i) (λ v _. placed var.old v)) (answered result) var.new }
+fn place(t: &Tables, i: usize, var: &mut [u64]) -> Result<(), Refusal>
+    ensures { Leaves var.old (bind (sought t.now i) (λ v _. placed var.old v)) (answered result) var.new }
 {
     put(seek(t, i)?, var)
 }
@@ -51,7 +51,7 @@ pub fn fungal_place_var(tables: &[u64], i: u64, var: &mut [u64]) -> u8
     if loaded.number != 0 {
         return loaded.number;
     }
-    place(loaded.tables, i as usize, var)
+    place(&loaded.tables, i as usize, var)
         .err()
         .map_or(0, Refusal::number)
 }
@@ -63,13 +63,14 @@ pub(crate) fn taken(words: &[u64]) -> Result<Spread, Refusal>
     if words.len() < WORDS {
         return Err(Refusal::Tables);
     }
-    let kind = DataType::try_from(words[4]).map_err(|_| Refusal::Tables)?;
+    let code = words[4];
+    let kind = DataType::try_from(code).map_err(|_| Refusal::Tables)?;
     Ok(Spread {
         begin: words[0],
         records: words[1],
         step: words[2],
         chunk: words[3],
         width: kind.size_of(),
-        code: kind.code(),
+        code: code as u8,
     })
 }

@@ -1,4 +1,6 @@
 // The variable that a read asks for, in tables that are tested first.
+#![tactic(auto, unfolding(crate::specs::Sought::sought, cdf::specs::Step::test))]
+
 ghost use Rattle.std.specs.Prelude.{◌≡◌, cond, ℕ, ◌≤◌, ◌<◌};
 ghost use Rattle.grammar.specs.Tables.{id_at};
 ghost use Rattle.sizes.specs.Records.{chunk, record_size, max_chunk};
@@ -31,36 +33,31 @@ fn records_of(records: bool, count: u64) -> u64
 }
 
 // The numbers of a row of tables that hold.
-fn described(t: Tables, v: Var, step: u64) -> Spread
-    requires { (v.rank ≤ 8) × ((k : ℕ) → k < v.rank → id_at v k < 32) × (1 ≤ v.code) × (v.code ≤ 6) × (chunk t.dims v ≤ max_chunk) × (step ≡ record_size t) }
-    ensures { result ≡ spread t v }
+fn described(t: &Tables, v: Var, step: u64) -> Spread
+    requires { (v.rank ≤ 8) × ((k : ℕ) → k < v.rank → id_at v k < 32) × (1 ≤ v.code) × (v.code ≤ 6) × (chunk t.now.dims v ≤ max_chunk) × (step ≡ record_size t.now) }
+    ensures { result ≡ spread t.now v }
 {
-    let dims = t.dims;
-    let count = t.count;
     let kind = DataType::of_code(v.code as u64);
     Spread {
         begin: v.begin,
-        records: records_of(is_record(dims, v), count),
+        records: records_of(is_record(t.dims, v), t.count),
         step,
-        chunk: chunk_len(dims, v),
+        chunk: chunk_len(t.dims, v),
         width: kind.size_of(),
         code: v.code,
     }
 }
 
 // The variable `i`, for reads of it: 23 or 16 where there is none.
-pub fn seek(t: Tables, i: usize) -> Result<Spread, Refusal>
-    ensures { of_result result ≡ sought t i }
+pub fn seek(t: &Tables, i: usize) -> Result<Spread, Refusal>
+    ensures { of_result result ≡ sought t.now i }
 {
-    let tested = tables_hold(t);
+    let tested = tables_hold(*t);
     if !tested.hold {
         return Err(Refusal::Tables);
     }
     if t.nvars <= i {
         return Err(Refusal::NoVariable);
     }
-    let vars = t.vars;
-    let v = vars[i];
-    let step = tested.step;
-    Ok(described(t, v, step))
+    Ok(described(t, t.vars[i], tested.step))
 }
