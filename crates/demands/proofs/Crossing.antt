@@ -7,7 +7,7 @@ use Rattle.cdf.specs.Step.{Step, got, stop}
 use Rattle.found.specs.Sought.{sought}
 use Rattle.reads.specs.Reads.{record_from, whole_from}
 use Rattle.reads.specs.Element.{element_from}
-use Rattle.reads.specs.Inner.Spot.{Bounded}
+use Rattle.reads.specs.Inner.Bounded.{Bounded}
 use Rattle.found.specs.declared.variable.Spread.{Spread}
 use Rattle.reads.proofs.Laws.Bounded.{found}
 use Rattle.crossing.proofs.Laws.Back.{loaded-stored}

@@ -1,17 +1,11 @@
 -- Two conforming answers coincide.
 use mathlib.Core.Path.{◌≡◌, refl, sym, ap, ◌∙◌}
+use Rattle.std.specs.Prelude.{Result, Ok, Err}
 use Rattle.cdf.specs.Step.{Step, got, stop}
-use Rattle.found.specs.Sought.{of_sought}
-use Rattle.reads.specs.Element.{of_value, of_told}
+use Rattle.cdf.specs.Refusals.{answered}
+use Rattle.cdf.specs.declared.refusal.Refusal.{Refusal}
+use Rattle.cdf.proofs.Laws.Refusals.{refused, same-number, same_result}
 use Rattle.lookup.specs.Lookup.{of_found}
-use Rattle.found.specs.declared.variable.Spread.{Spread}
-use Rattle.found.specs.declared.variable.Sought.{Sought}
-use Rattle.found.specs.declared.variable.Sought.TheVariants.{Got, Refused as Denied}
-use Rattle.reads.specs.declared.bits.Bits.{Bits}
-use Rattle.reads.specs.declared.bits.Told.{Told}
-use Rattle.reads.specs.declared.bits.Told.TheVariants.{Got as Gave, Refused as Withheld}
-use Rattle.reads.specs.declared.element.Value.{Value}
-use Rattle.reads.specs.declared.element.Value.TheVariants.{Byte, Char, Short, Int, Float, Double, Refused}
 use Rattle.lookup.specs.declared.names.Found.{Found}
 use Rattle.lookup.specs.declared.names.Found.TheVariants.{At, Refused as Missing}
 use Rattle.guest32.specs.Guest.{of_answer}
@@ -19,7 +13,14 @@ use Rattle.guest32.specs.declared.guest.Guest.{Guest}
 use Rattle.guest32.specs.declared.guest.Answer.{Answer}
 use Rattle.guest32.specs.declared.guest.Answer.TheVariants.{Got as Made, Refused as Unmade}
 use Prim.Native.Nat.{ℕ}
-use Rattle.demands.specs.Determined.{HeaderDetermined, OutputsDetermined, FoundDetermined, GuestDetermined, ElementsDetermined, LoadsDetermined, PartsDetermined, LookupsDetermined, NumbersDetermined, WriterDetermined, ConversionDetermined}
+use Rattle.demands.specs.Determined.{HeaderDetermined, OutputsDetermined, ReadsDetermined, ResultsDetermined, FoundDetermined, GuestDetermined, ElementsDetermined, LoadsDetermined, PartsDetermined, LookupsDetermined, NumbersDetermined, WriterDetermined, ConversionDetermined}
+
+-- a result that gives nothing is told whole by the number that it answers
+same_answer : (r q : Result Unit Refusal) → answered r ≡ answered q → r ≡ q
+same_answer (Ok x) (Ok y) e = refl
+same_answer (Ok x) (Err l) e = absurd (refused l (sym e))
+same_answer (Err k) (Ok y) e = absurd (refused k e)
+same_answer (Err k) (Err l) e = ap (λ z. Err z) (same-number k l e)
 
 pub header-determined : HeaderDetermined
 unfolding HeaderDetermined
@@ -30,20 +31,6 @@ unfolding OutputsDetermined
 outputs-determined A out y k k' new new' p q = (p.0 ∙ sym q.0, p.1 ∙ sym q.1)
 
 -- what an answer means gives the answer back
-value-back : Step Value → Value
-value-back (got x n) = x
-value-back (stop k p) = Refused k
-
-value-kept : (x : Value) → value-back (of_value x) ≡ x
-unfolding value-back
-value-kept (Byte x) = refl
-value-kept (Char x) = refl
-value-kept (Short x) = refl
-value-kept (Int x) = refl
-value-kept (Float x b) = refl
-value-kept (Double x b) = refl
-value-kept (Refused k) = refl
-
 found_back : Step ℕ → Found
 found_back (got i n) = At i
 found_back (stop k p) = Missing k
@@ -52,24 +39,6 @@ found-kept : (f : Found) → found_back (of_found f) ≡ f
 unfolding found_back
 found-kept (At i) = refl
 found-kept (Missing k) = refl
-
-sought-back : Step Spread → Sought
-sought-back (got v n) = Got v
-sought-back (stop k p) = Denied k
-
-sought-kept : (x : Sought) → sought-back (of_sought x) ≡ x
-unfolding sought-back
-sought-kept (Got v) = refl
-sought-kept (Denied k) = refl
-
-told_back : Step Bits → Told
-told_back (got x n) = Gave x
-told_back (stop k p) = Withheld k
-
-told-kept : (x : Told) → told_back (of_told x) ≡ x
-unfolding told_back
-told-kept (Gave x) = refl
-told-kept (Withheld k) = refl
 
 answer_back : Step Guest → Answer
 answer_back (got g n) = Made g
@@ -84,16 +53,21 @@ pub guest-determined : GuestDetermined
 unfolding GuestDetermined
 guest-determined y x x' p q = sym (answer-kept x) ∙ ap answer_back (p ∙ sym q) ∙ answer-kept x'
 
+pub reads-determined : ReadsDetermined
+unfolding ReadsDetermined
+reads-determined A out y r r' new new' p q = (same_answer r r' (p.0 ∙ sym q.0), p.1 ∙ sym q.1)
+
+pub results-determined : ResultsDetermined
+unfolding ResultsDetermined
+results-determined A y x x' p q = same_result x x' (p ∙ sym q)
+
 pub found-determined : FoundDetermined
 unfolding FoundDetermined
-found-determined y x x' p q = sym (sought-kept x) ∙ ap sought-back (p ∙ sym q) ∙ sought-kept x'
+found-determined y x x' p q = same_result x x' (p ∙ sym q)
 
 pub elements-determined : ElementsDetermined
 unfolding ElementsDetermined
-elements-determined = (
-  λ y x x' p q. sym (value-kept x) ∙ ap value-back (p ∙ sym q) ∙ value-kept x',
-  λ y x x' p q. sym (told-kept x) ∙ ap told_back (p ∙ sym q) ∙ told-kept x',
-)
+elements-determined = (λ y x x' p q. same_result x x' (p ∙ sym q), λ y x x' p q. same_result x x' (p ∙ sym q))
 
 pub loads-determined : LoadsDetermined
 unfolding LoadsDetermined

@@ -1,20 +1,18 @@
 -- Demand 1 (01, What each answer must decide: "That two conforming results coincide is proved"). Each line takes two answers that meet a contract,
 -- in the contract's own words: every entry's contract has one of these forms (tests/reach looks).
-use Rattle.std.specs.Prelude.{ℕ, ◌≡◌, List}
+use Rattle.std.specs.Prelude.{ℕ, ◌≡◌, List, Result}
 use Rattle.std.specs.Borrow.{Bor}
 use Rattle.cdf.specs.Step.{Step, Leaves}
+use Rattle.cdf.specs.Refusals.{of_result, answered}
+use Rattle.cdf.specs.declared.refusal.Refusal.{Refusal}
 use Rattle.cdf.specs.declared.version.Admitted.{Admitted}
 use Rattle.grammar.specs.declared.tables.Tables.{Tables}
 use Rattle.header.specs.Header.{Conforms}
 use Rattle.header.specs.declared.reader.Header.{Header}
-use Rattle.found.specs.Sought.{of_sought}
-use Rattle.reads.specs.Element.{of_value, of_told}
 use Rattle.lookup.specs.Lookup.{of_found, IsName}
 use Rattle.found.specs.declared.variable.Spread.{Spread}
-use Rattle.found.specs.declared.variable.Sought.{Sought}
 use Rattle.reads.specs.declared.element.Value.{Value}
 use Rattle.reads.specs.declared.bits.Bits.{Bits}
-use Rattle.reads.specs.declared.bits.Told.{Told}
 use Rattle.lookup.specs.declared.names.Found.{Found}
 use Rattle.guest32.specs.Guest.{of_answer}
 use Rattle.guest32.specs.declared.guest.Guest.{Guest}
@@ -31,14 +29,26 @@ use Rattle.convert.specs.declared.convert.Converted.{Converted}
 unfoldable pub HeaderDetermined : Type 0
 HeaderDetermined = (s : List ℕ) (size : ℕ) (a : Admitted) (h h' : Header) → Conforms s size a h → Conforms s size a h' → h ≡ h'
 
--- a number and an output: every record read and whole-variable read, and the exported functions that have an output, whatever is to be read
+-- a number and an output: the exported functions that have an output, whatever is to be read
 unfoldable pub OutputsDetermined : Type 1
 OutputsDetermined =
     (A : Type 0) (out : List A) (y : Step (List A)) (k k' : ℕ) (new new' : List A) → Leaves out y k new → Leaves out y k' new' → (k ≡ k') × (new ≡ new')
 
+-- a result and an output: every record read and whole-variable read
+unfoldable pub ReadsDetermined : Type 1
+ReadsDetermined =
+    (A : Type 0) (out : List A) (y : Step (List A)) (r r' : Result Unit Refusal) (new new' : List A)
+    → Leaves out y (answered r) new
+    → Leaves out y (answered r') new'
+    → (r ≡ r') × (new ≡ new')
+
+-- a result alone, of every type
+unfoldable pub ResultsDetermined : Type 1
+ResultsDetermined = (A : Type 0) (y : Step A) (x x' : Result A Refusal) → of_result x ≡ y → of_result x' ≡ y → x ≡ x'
+
 -- a variable that is found, for reads of it
 unfoldable pub FoundDetermined : Type 0
-FoundDetermined = (y : Step Spread) (x x' : Sought) → of_sought x ≡ y → of_sought x' ≡ y → x ≡ x'
+FoundDetermined = (y : Step Spread) (x x' : Result Spread Refusal) → of_result x ≡ y → of_result x' ≡ y → x ≡ x'
 
 -- what a 32-bit build of netcdf3 makes of a file
 unfoldable pub GuestDetermined : Type 0
@@ -47,8 +57,8 @@ GuestDetermined = (y : Step Guest) (x x' : Answer) → of_answer x ≡ y → of_
 -- a value: every element read; and a value's bits
 unfoldable pub ElementsDetermined : Type 0
 ElementsDetermined =
-    ((y : Step Value) (x x' : Value) → of_value x ≡ y → of_value x' ≡ y → x ≡ x')
-    × ((y : Step Bits) (x x' : Told) → of_told x ≡ y → of_told x' ≡ y → x ≡ x')
+    ((y : Step Value) (x x' : Result Value Refusal) → of_result x ≡ y → of_result x' ≡ y → x ≡ x')
+    × ((y : Step Bits) (x x' : Result Bits Refusal) → of_result x ≡ y → of_result x' ≡ y → x ≡ x')
 
 -- tables that are loaded
 unfoldable pub LoadsDetermined : Type 0
