@@ -1,14 +1,15 @@
 -- Tables as numbers: how tables cross to another language. One number a word, every row, those past a count too.
-use Rattle.std.specs.Prelude.{ℕ, zero, suc, ◌+◌, ◌*◌, ◌^◌, ◌<◌, Bool, true, ◌&&◌, ◌≡◌, List, [], ◌∷◌, ◌++◌, length, get_or, drop, leb, ltb}
+use Rattle.std.specs.Prelude.{ℕ, zero, suc, ◌+◌, ◌*◌, ◌^◌, ◌<◌, Bool, true, ◌&&◌, ◌≡◌, Result, List, [], ◌∷◌, ◌++◌, length, get_or, drop, leb, ltb}
 use Rattle.bigendian.specs.Lists.{tab}
-use Rattle.cdf.specs.Step.{Step, got, need, number_of, given_or}
+use Rattle.cdf.specs.Step.{Step, got, need}
+use Rattle.cdf.specs.Refusals.{of_result}
+use Rattle.cdf.specs.declared.refusal.Refusal.{Refusal}
 use Rattle.cdf.specs.Below.{all_below}
-use Rattle.grammar.specs.Tables.{max_dims, max_attrs, max_vars, max_rank, no_dim, no_attr, no_var, dim_at, attr_at, var_at, id_at, blank}
+use Rattle.grammar.specs.Tables.{max_dims, max_attrs, max_vars, max_rank, no_dim, no_attr, no_var, dim_at, attr_at, var_at, id_at}
 use Rattle.grammar.specs.declared.tables.Dim.{Dim}
 use Rattle.grammar.specs.declared.tables.Attr.{Attr}
 use Rattle.grammar.specs.declared.tables.Var.{Var}
 use Rattle.grammar.specs.declared.tables.Tables.{Tables}
-use Rattle.crossing.specs.declared.load.Loaded.{Loaded}
 
 -- the first eight: version, count word, record count, file size; how many dimensions, attributes, global attributes, variables
 unfoldable pub head_words : Tables → List ℕ
@@ -156,6 +157,6 @@ pub record Full (t : Tables) : Type 0 where
 unfoldable pub loaded : List ℕ → Step Tables
 loaded s = need (leb table_length (length s) && tables_in_fields (tables_of s)) 23 0 (got (tables_of s) 0)
 
--- the contract of loading: the number and the tables, blank ones in a refusal
-abbrev pub Loads : List ℕ → Loaded → Type 0
-Loads s r = (r.number ≡ number_of (loaded s)) × (r.tables ≡ given_or blank (loaded s))
+-- the contract of loading: the tables, or the refusal
+abbrev pub Loads : List ℕ → Result Tables Refusal → Type 0
+Loads s r = of_result r ≡ loaded s

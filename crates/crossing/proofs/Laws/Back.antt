@@ -14,7 +14,8 @@ use Rattle.cdf.specs.Step.{got, test}
 use Rattle.grammar.specs.Tables.{max_rank, no_dim, no_attr, no_var, dim_at, attr_at, var_at, id_at}
 use Rattle.grammar.specs.declared.tables.Tables.{Tables}
 use Rattle.crossing.specs.Words.{head_words, dim_words, attr_words, var_words, joined, dims_words, attrs_words, table_words, word_at, dim_of, attr_of, var_of, tables_of, Full, loaded}
-use Rattle.crossing.proofs.Laws.Joined.{wide-dim, wide-attr, wide-var, length-joined}
+use Rattle.crossing.proofs.Laws.Joined.{length-joined}
+use Rattle.crossing.specs.Inner.Rows.{wide-dim, wide-attr, wide-var}
 use Rattle.crossing.proofs.Laws.Stored.{length-head, length-dims, length-attrs, length-tables}
 
 -- a list by its elements

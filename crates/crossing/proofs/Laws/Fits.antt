@@ -1,74 +1,46 @@
--- What it says that numbers fit their fields.
-use Prim.Native.Nat.{ℕ, ◌+◌, ◌^◌, ◌<◌}
-use mathlib.Core.Path.{◌≡◌, refl}
-use mathlib.Core.Bool.{true}
+-- What it says that a number fits its field.
+use Prim.Native.Nat.{ℕ, ◌+◌, ◌^◌, ◌≤◌, ◌<◌}
+use native.Mathlib.Omega.{arith}
+use mathlib.Core.Path.{◌≡◌, refl, sym, ap, ◌∙◌}
+use mathlib.Core.Bool.{true, false}
+use borrow.Author.Tests.{lt-ltb, le-ltb}
 use mathlib.Core.List.{List}
-use borrow.Author.Tests.{ltb-true, lt-ltb}
 use lib.Dec.{ltb}
+use Rattle.crossing.specs.Inner.Rows.{word-inner}
+use Rattle.std.specs.Prelude.{Option, Some, None, Result, Ok, Err}
+use Rattle.std.specs.Result.{OkIff, result_ok}
 use Rattle.bigendian.specs.Lists.{tab}
+use Rattle.bigendian.proofs.Laws.Lists.{tab-ext, get_or-tab}
 use Rattle.cdf.specs.Below.{all_below}
-use Rattle.cdf.proofs.Laws.Below.{both, holds_at}
 use Rattle.grammar.specs.Tables.{max_rank, id_at}
-use Rattle.grammar.specs.declared.tables.Var.{Var}
-use Rattle.crossing.specs.Words.{word_at, dim_of, attr_of, var_of, dim_in_fields, attr_in_fields, var_in_fields}
-use Rattle.crossing.specs.Inner.Taken.{ids_fit}
+use Rattle.crossing.specs.Words.{word_at, var_of, var_in_fields}
+use Rattle.crossing.specs.Inner.Taken.{when, ids_fit, part}
+use Rattle.crossing.proofs.Laws.Loading.{all_same, when-none, when-some}
 
-pub record DimIn (s : List ℕ) (at : ℕ) : Type 0 where
-  pub chars : word_at s (at + 1) < 4294967296
-  pub length : word_at s (at + 2) < 4294967296
+module _ {E : Type 0} (v m : ℕ) where
+  -- a number that was tried does not fit, or it is what was taken
+  pub too_wide : (r : Result ℕ E) {o : Option ℕ} → OkIff r (v < m) v → o ≡ result_ok r → o ≡ None → ltb v m ≡ false
+  too_wide (Ok y) tried seen e = let f : Some y ≡ None = sym seen ∙ e in cc
+  too_wide (Err d) tried seen e = let h : m ≤ v = omega (arith, tried) in le-ltb v m h
 
-pub record AttrIn (s : List ℕ) (at : ℕ) : Type 0 where
-  pub chars : word_at s (at + 1) < 65536
-  pub code : word_at s (at + 2) < 65536
-  pub count : word_at s (at + 3) < 4294967296
+  pub narrow : (r : Result ℕ E) {o : Option ℕ} {x : ℕ} → OkIff r (v < m) v → o ≡ result_ok r → o ≡ Some x → (ltb v m ≡ true) × (x ≡ v)
+  narrow (Ok y) {x = x} tried seen e = let f : Some y ≡ Some x = sym seen ∙ e in let g : y ≡ x = cc in (lt-ltb v m tried.0, sym g ∙ tried.1)
+  narrow (Err d) {x = x} tried seen e = let f : None ≡ Some x = sym seen ∙ e in cc
 
-pub record VarIn (s : List ℕ) (at : ℕ) : Type 0 where
-  pub chars : word_at s (at + 1) < 4294967296
-  pub rank : word_at s (at + 2) < 256
-  pub first : word_at s (at + 3) < 256
-  pub attrs : word_at s (at + 4) < 256
-  pub code : word_at s (at + 5) < 256
-  pub ids : ids_fit s (at + 8) ≡ true
+-- the ids of a variable, whose words stand behind eight others
+module _ (s : List ℕ) where
+  ids-there : ids_fit (part s 8 8) ≡ all_below max_rank (λ k. ltb (id_at (var_of s 0) k) (2 ^ 32))
+  unfolding ids_fit var_of
+  ids-there = all_same _ _ 8 (λ k l. ap (λ (n : ℕ). ltb n (2 ^ 32)) (word-inner s 8 8 k (8 + k) l refl ∙ sym (get_or-tab (λ j. word_at s (8 + j)) 8 k 0 l)))
 
-module _ (s : List ℕ) (at : ℕ) where
-  pub id-in : ids_fit s at ≡ true → (k : ℕ) → k < 8 → word_at s (at + k) < 4294967296
-  unfolding ids_fit
-  id-in e k h = ltb-true _ _ (holds_at _ 8 k e h)
-
-  pub dim-in : dim_in_fields (dim_of s at) ≡ true → DimIn s at
-  unfolding dim_in_fields dim_of
-  dim-in e = let a = both _ _ e in record { chars = ltb-true _ _ a.0; length = ltb-true _ _ a.1 }
-
-  pub attr-in : attr_in_fields (attr_of s at) ≡ true → AttrIn s at
-  unfolding attr_in_fields attr_of
-  attr-in e =
-      let a = both _ _ e in
-      let b = both _ _ a.1 in
-      record { chars = ltb-true _ _ a.0; code = ltb-true _ _ b.0; count = ltb-true _ _ b.1 }
-
-  pub var-in : var_in_fields (var_of s at) ≡ true → VarIn s at
-  unfolding var_in_fields var_of ids_fit tab all_below
-  var-in e =
-      let a = both _ _ e in
-      let b = both _ _ a.1 in
-      let d = both _ _ b.1 in
-      let f = both _ _ d.1 in
-      let g = both _ _ f.1 in
-      record { chars = ltb-true _ _ a.0; rank = ltb-true _ _ b.0; first = ltb-true _ _ d.0; attrs = ltb-true _ _ f.0; code = ltb-true _ _ g.0; ids = g.1 }
-
-  -- the ids of a row alone are left to test
-  ids-left : all_below max_rank (λ k. ltb (id_at (var_of s at) k) (2 ^ 32)) ≡ ids_fit s (at + 8)
-  unfolding var_of ids_fit tab all_below
-  ids-left = refl
-
-  pub by-ids : word_at s (at + 1) < 4294967296 → word_at s (at + 2) < 256 → word_at s (at + 3) < 256 → word_at s (at + 4) < 256 → word_at s (at + 5) < 256 → var_in_fields (var_of s at) ≡ ids_fit s (at + 8)
+  -- they alone are left to test
+  pub by-ids : ltb (word_at s 1) (2 ^ 32) ≡ true → ltb (word_at s 2) (2 ^ 8) ≡ true → ltb (word_at s 3) (2 ^ 8) ≡ true → ltb (word_at s 4) (2 ^ 8) ≡ true → ltb (word_at s 5) (2 ^ 8) ≡ true → var_in_fields (var_of s 0) ≡ ids_fit (part s 8 8)
   unfolding var_in_fields var_of
-  by-ids a b d e f = simp (lt-ltb _ _ a, lt-ltb _ _ b, lt-ltb _ _ d, lt-ltb _ _ e, lt-ltb _ _ f) ids-left
+  by-ids a b d e f = simp (a, b, d, e, f) (sym ids-there)
 
-  -- a row, whose ids are taken up apart
-  pub var-is : (ids : List ℕ) → ids ≡ tab (λ k. word_at s (at + 8 + k)) max_rank
-      → ◌≡◌ {A = Var}
-      (record { name = word_at s at; chars = word_at s (at + 1); ids = ids; rank = word_at s (at + 2); first = word_at s (at + 3); attrs = word_at s (at + 4); code = word_at s (at + 5); vsize = word_at s (at + 6); begin = word_at s (at + 7) })
-      (var_of s at)
-  unfolding var_of
-  var-is ids e = λ j. record { name = word_at s at; chars = word_at s (at + 1); ids = e j; rank = word_at s (at + 2); first = word_at s (at + 3); attrs = word_at s (at + 4); code = word_at s (at + 5); vsize = word_at s (at + 6); begin = word_at s (at + 7) }
+  module _ {r : Option (List ℕ)} (tried : r ≡ when (ids_fit (part s 8 8)) (tab (word_at (part s 8 8)) 8)) where
+    pub ids-out : r ≡ None → ids_fit (part s 8 8) ≡ false
+    ids-out e = when-none _ _ (sym tried ∙ e)
+
+    pub ids-in : {y : List ℕ} → r ≡ Some y → (ids_fit (part s 8 8) ≡ true) × (y ≡ tab (λ k. word_at s (8 + k)) max_rank)
+    ids-in e = let f = when-some _ _ (sym tried ∙ e) in (f.0, f.1 ∙ tab-ext _ _ 8 (λ k l. word-inner s 8 8 k (8 + k) l refl))

@@ -12,8 +12,10 @@ use Rattle.cdf.specs.Step.{test, Leaves}
 use Rattle.grammar.specs.Tables.{max_rank, id_at, no_dim, no_attr, no_var}
 use Rattle.grammar.specs.declared.tables.Var.{Var}
 use Rattle.grammar.specs.declared.tables.Tables.{Tables}
-use Rattle.crossing.specs.Words.{head_words, var_words, dims_words, attrs_words, vars_words, table_words, stored}
-use Rattle.crossing.proofs.Laws.Joined.{Begun, begun-sets, begun_more, wide-dim, wide-attr, wide-var, length-joined}
+use Rattle.std.specs.List.{flat_map}
+use Rattle.crossing.specs.Words.{head_words, dim_words, attr_words, var_words, dims_words, attrs_words, vars_words, table_words, stored}
+use Rattle.crossing.proofs.Laws.Joined.{Begun, begun-sets, begun_more, rows-joined, length-joined}
+use Rattle.crossing.specs.Inner.Rows.{wide-dim, wide-attr, wide-var}
 
 -- a row: eight numbers, and the part with the ids
 pub var-stored : (v : Var) (d : List ℕ) {y : List ℕ} → length d ≡ 16 → y ≡ tab (id_at v) max_rank
@@ -46,23 +48,23 @@ module _ (t : Tables) where
       omega (arith, length-head, length-dims, length-attrs, length-vars)
 
   -- eight numbers, and then a part for each list, in an output d
-  module _ (d : List ℕ) (room : 1768 ≤ length d) {x : List ℕ} (p : x ≡ dims_words t.dims) where
+  module _ (d : List ℕ) (room : 1768 ≤ length d) {x : List ℕ} (p : x ≡ flat_map dim_words t.dims) (many : length t.dims ≡ 32) where
     pub dims-stored : Begun d (put_mid 8 96 (sets d 0 (head_words t)) x) (head_words t ++ dims_words t.dims)
-    dims-stored = begun_more 8 104 _ (begun-sets d (head_words t) (omega (arith, length-head))) p length-head (omega (arith, length-dims)) (omega arith)
+    dims-stored = begun_more 8 104 _ (begun-sets d (head_words t) (omega (arith, length-head))) (p ∙ rows-joined dim_words no_dim t.dims 32 many) length-head (omega (arith, length-dims)) (omega arith)
 
-    module _ {y : List ℕ} (q : y ≡ attrs_words t.attrs) where
+    module _ {y : List ℕ} (q : y ≡ flat_map attr_words t.attrs) (several : length t.attrs ≡ 128) where
       pub attrs-stored : Begun d (put_mid 104 640 (put_mid 8 96 (sets d 0 (head_words t)) x) y) ((head_words t ++ dims_words t.dims) ++ attrs_words t.attrs)
       attrs-stored =
           let m = length-append (head_words t) (dims_words t.dims) in
-          begun_more 104 744 _ dims-stored q (omega (arith, length-head, length-dims)) (omega (arith, length-attrs)) (omega arith)
+          begun_more 104 744 _ dims-stored (q ∙ rows-joined attr_words no_attr t.attrs 128 several) (omega (arith, length-head, length-dims)) (omega (arith, length-attrs)) (omega arith)
 
-      pub tables-stored : {z : List ℕ} → z ≡ vars_words t.vars → Begun d (put_mid 744 1024 (put_mid 104 640 (put_mid 8 96 (sets d 0 (head_words t)) x) y) z) (table_words t)
+      pub tables-stored : {z : List ℕ} → z ≡ flat_map var_words t.vars → length t.vars ≡ 64 → Begun d (put_mid 744 1024 (put_mid 104 640 (put_mid 8 96 (sets d 0 (head_words t)) x) y) z) (table_words t)
       unfolding table_words
-      tables-stored r =
+      tables-stored r all =
           let m = length-append (head_words t) (dims_words t.dims) in
           let n = length-append (head_words t ++ dims_words t.dims) (attrs_words t.attrs) in
           subst (Begun d _) (append_assoc (head_words t ++ dims_words t.dims) _ _ ∙ append_assoc (head_words t) _ _)
-          (begun_more 744 1768 _ attrs-stored r (omega (arith, length-head, length-dims, length-attrs)) (omega (arith, length-vars)) (omega arith))
+          (begun_more 744 1768 _ attrs-stored (r ∙ rows-joined var_words no_var t.vars 64 all) (omega (arith, length-head, length-dims, length-attrs)) (omega (arith, length-vars)) (omega arith))
 
   -- the two answers
   module _ (out : List ℕ) where

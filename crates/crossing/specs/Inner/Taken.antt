@@ -1,26 +1,24 @@
 -- What the parts of the loader answer.
-use Rattle.std.specs.Prelude.{ℕ, ◌+◌, ◌*◌, ◌^◌, Bool, true, ◌≡◌, List, ltb}
+use Rattle.std.specs.Prelude.{ℕ, ◌^◌, Bool, true, false, ◌≡◌, Option, Some, None, List, take, drop, ltb}
+use Rattle.bigendian.specs.Lists.{tab}
 use Rattle.cdf.specs.Below.{all_below}
-use Rattle.grammar.specs.Tables.{max_dims, max_attrs, max_vars, max_rank}
-use Rattle.crossing.specs.Words.{word_at, dim_of, attr_of, var_of, dim_in_fields, attr_in_fields, var_in_fields}
+use Rattle.grammar.specs.Tables.{max_rank}
+use Rattle.crossing.specs.Words.{word_at}
 
--- the eight ids at a place fit their fields
-unfoldable pub ids_fit : List ℕ → ℕ → Bool
-ids_fit s at = all_below max_rank (λ k. ltb (word_at s (at + k)) (2 ^ 32))
+-- a value, where a test holds
+abbrev pub when : {A : Type 0} → Bool → A → Option A
+when true x = Some x
+when false x = None
 
--- the numbers of all dimensions fit their fields
-abbrev pub dims_fit : List ℕ → Bool
-dims_fit s = all_below max_dims (λ i. dim_in_fields (dim_of s (8 + 3 * i)))
+-- the eight ids that words start with fit their fields
+unfoldable pub ids_fit : List ℕ → Bool
+ids_fit s = all_below max_rank (λ k. ltb (word_at s k) (2 ^ 32))
 
--- those of all attributes
-abbrev pub attrs_fit : List ℕ → Bool
-attrs_fit s = all_below max_attrs (λ i. attr_in_fields (attr_of s (104 + 5 * i)))
+-- n words from a place on
+abbrev pub part : List ℕ → ℕ → ℕ → List ℕ
+part s at n = take n (drop at s)
 
--- those of all variables
-abbrev pub vars_fit : List ℕ → Bool
-vars_fit s = all_below max_vars (λ i. var_in_fields (var_of s (744 + 16 * i)))
-
--- what the loader of a list answers: whether the numbers fit, and, where they do, the rows
-pub record Taken {A : Type 0} (fits : Bool) (rows : List A) (hold : Bool) (taken : List A) : Type 0 where
-  pub says : hold ≡ fits
-  pub same : hold ≡ true → taken ≡ rows
+-- what the loader of n rows answers, where row k is `row k` and fits its fields or not: whether all do, and then the rows
+abbrev pub Taken : {A B : Type 0} → ℕ → (ℕ → Bool) → (ℕ → A) → Option B → List A → Type 0
+Taken n fits row (Some _) rows = (all_below n fits ≡ true) × (rows ≡ tab row n)
+Taken n fits row None rows = all_below n fits ≡ false

@@ -1,0 +1,21 @@
+use mathlib.Core.Path.{refl}
+use Rattle.crossing.specs.Inner.Taken.{ids_fit}
+use Rattle.crossing.proofs.Laws.Fits.{too_wide, narrow}
+use Rattle.crossing.proofs.Laws.Loading.{loading-none, loading-more, loading-stop, loading-all}
+use Rattle.crossing.proofs.row.take_ids.Goals as goal
+
+pub loop-k-init : goal.loop-k-init
+loop-k-init c = loading-none _ _ _ refl
+
+pub returns-in_err-id : goal.returns-in_err-id
+unfolding ids_fit
+returns-in_err-id c = simp (loading-stop _ _ c.loop-k.invariant c.loop-k-test.true (too_wide _ _ _ c.try_from.ensures c.ok.ensures.value c.in_err-id.was)) c.from_residual.ensures
+
+pub loop-k-preserved : goal.loop-k-preserved
+loop-k-preserved c =
+    let a = narrow _ _ _ c.try_from.ensures c.ok.ensures.value c.in_ok-id.was in
+    loading-more _ _ c.loop-k.invariant c.loop-k-test.true a.0 a.1
+
+pub returns : goal.returns
+unfolding ids_fit
+returns c = let a = loading-all _ _ c.loop-k.invariant c.loop-k-test.false in simp (a.0, a.1)
