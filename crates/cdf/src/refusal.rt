@@ -50,3 +50,12 @@ pub struct Stop {
     pub why: Refusal,
     pub place: usize,
 }
+
+// A refusal that has no place of its own is told at 0.
+impl From<Refusal> for Stop {
+    ghost from_gives = { λ k s. s ≡ record { why = k; place = 0 } };
+
+    fn from(why: Refusal) -> Stop {
+        Stop { why, place: 0 }
+    }
+}

@@ -2,3 +2,4 @@
 pub mod Header
 pub mod Refusals
 pub mod Accepted
+pub mod Parsed

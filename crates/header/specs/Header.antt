@@ -1,6 +1,8 @@
 -- What the header reader answers (01, Answer numbers and Order).
-use Rattle.std.specs.Prelude.{ℕ, ◌&&◌, ◌≡◌, List, length, leb, eqb}
+use Rattle.std.specs.Prelude.{ℕ, ◌&&◌, ◌≡◌, Result, Ok, Err, List, length, leb, eqb}
 use Rattle.cdf.specs.Step.{Step, got, stop, bind, need, into}
+use Rattle.cdf.specs.Refusals.{number}
+use Rattle.cdf.specs.declared.refusal.Stop.{Stop}
 use Rattle.cdf.specs.declared.version.Admitted.{Admitted}
 use Rattle.grammar.specs.Tables.{blank, laid, with_count}
 use Rattle.grammar.specs.Grammar.{header}
@@ -8,7 +10,14 @@ use Rattle.model.specs.Model.{model_holds}
 use Rattle.sizes.specs.Records.{sizes_hold, ends_hold, max_position}
 use Rattle.sizes.specs.Count.{record_count}
 use Rattle.grammar.specs.declared.tables.Tables.{Tables}
-use Rattle.header.specs.declared.reader.Header.{Header}
+use Rattle.header.specs.declared.reader.Header.{Header as Read}
+
+-- what is answered: the number and place of a refusal, or 0 and the header's end; and tables
+pub record Header : Type 0 where
+  pub number : ℕ
+  pub place : ℕ
+  pub end : ℕ
+  pub tables : Tables
 
 -- 01: "A header refusal returns its number, a place, and tables of version 1 with all else 0. Ends .. are 0 in any refusal"
 unfoldable pub refusal : ℕ → ℕ → Header
@@ -40,6 +49,11 @@ read_header s size a =
 abbrev pub after_header : {A : Type 0} → Header → (Header → Step A) → Step A
 after_header h f = need (eqb h.number 0) h.number h.place (f h)
 
--- the header reader's contract: h is its answer to a prefix s of a file of that size, where the versions of a are admitted
-abbrev pub Conforms : List ℕ → ℕ → Admitted → Header → Type 0
-Conforms s size a h = h ≡ read_header s size a
+-- what the code's result tells
+abbrev pub header_of : Result Read Stop → Header
+header_of (Ok h) = record { number = 0; place = 0; end = h.end; tables = h.tables }
+header_of (Err k) = refusal (number k.why) k.place
+
+-- the header reader's contract: r tells its answer to a prefix s of a file of that size, where the versions of a are admitted
+abbrev pub Conforms : List ℕ → ℕ → Admitted → Result Read Stop → Type 0
+Conforms s size a r = header_of r ≡ read_header s size a

@@ -14,17 +14,23 @@ use Rattle.grammar.specs.Grammar.{header}
 use Rattle.model.specs.Model.{model_holds}
 use Rattle.sizes.specs.Records.{sizes_hold, ends_hold, max_position}
 use Rattle.sizes.specs.Count.{record_count}
+use Rattle.std.specs.Prelude.{Result, Ok, Err}
+use Rattle.std.specs.Result.{IsErrAnd}
+use Rattle.cdf.specs.Refusals.{number}
+use Rattle.cdf.specs.declared.refusal.Refusal.TheVariants.{FileSize}
+use Rattle.cdf.specs.declared.refusal.Stop.{Stop}
 use Rattle.header.specs.Header.{refusal, answer, judged, read_header, after_header}
 use Rattle.grammar.specs.declared.tables.Tables.{Tables}
-use Rattle.header.specs.declared.reader.Header.{Header}
+use Rattle.header.specs.Header.{Header}
 
-pub answer-stop : {h : Header} {m : Step Tables} {k p : ℕ} → h ≡ refusal k p → stop k p ≡ m → h ≡ answer m
+-- a refusal that is passed on
+pub passed : {A E : Type 0} (r : Result A E) {k : E} → IsErrAnd r (λ l. l ≡ k) → r ≡ Err k
+passed (Err l) e = ap (λ z. Err z) e
+passed (Ok x) e = absurd e
+
+answer-stop : {h : Header} {m : Step Tables} {k p : ℕ} → h ≡ refusal k p → stop k p ≡ m → h ≡ answer m
 unfolding answer
 answer-stop e f = e ∙ ap answer f
-
-pub answer-got : {m : Step Tables} {t : Tables} {e : ℕ} → got t e ≡ m → record { number = 0; place = 0; end = e; tables = t } ≡ answer m
-unfolding answer
-answer-got f = ap answer f
 
 module _ (s : List ℕ) (t : Tables) (e : ℕ) where
   pub judged-model : model_holds s t ≡ false → stop 11 0 ≡ judged s t e
@@ -51,25 +57,34 @@ module _ (s : List ℕ) (t : Tables) (e : ℕ) where
         judged-got x = by-true _ model (by-true _ sizes (by-got _ _ counted (by-true _ x refl)))
 
 module _ (s : List ℕ) (size : ℕ) (a : Admitted) where
-  pub read-longer : {h : Header} → size < length s → h ≡ refusal 21 0 → h ≡ read_header s size a
-  unfolding read_header
-  read-longer l e = answer-stop e (by-false _ (rw (lt-leb (length s) size l)) refl)
+  module _ {r : Stop} (told : r ≡ record { why = FileSize; place = 0 }) where
+    size-refused : refusal (number r.why) r.place ≡ refusal 21 0
+    size-refused = ap (λ (k : Stop). refusal (number k.why) k.place) told
 
-  pub read-larger : {h : Header} → max_position < size → h ≡ refusal 21 0 → h ≡ read_header s size a
-  unfolding read_header
-  read-larger l e = answer-stop e (by-false _ (rw (lt-leb size max_position l) (and-false (leb (length s) size))) refl)
+    pub read-longer : size < length s → refusal (number r.why) r.place ≡ read_header s size a
+    unfolding read_header
+    read-longer l = answer-stop size-refused (by-false _ (rw (lt-leb (length s) size l)) refl)
+
+    pub read-larger : max_position < size → refusal (number r.why) r.place ≡ read_header s size a
+    unfolding read_header
+    read-larger l = answer-stop size-refused (by-false _ (rw (lt-leb size max_position l) (and-false (leb (length s) size))) refl)
 
   module _ (inside : length s ≤ size) (small : size ≤ max_position) where
     both_hold : (leb (length s) size && leb size max_position) ≡ true
     both_hold = rw (le-leb (length s) size inside, le-leb size max_position small)
 
-    pub read-stops : {h : Header} {k p : ℕ} → h ≡ refusal k p → stop k p ≡ into laid (header a s size) → h ≡ read_header s size a
+    pub read-stops : {k p : ℕ} → stop k p ≡ into laid (header a s size) → refusal k p ≡ read_header s size a
     unfolding read_header
-    read-stops e f = answer-stop e (by-true _ both_hold (by-stop _ f))
+    read-stops f = answer-stop refl (by-true _ both_hold (by-stop _ f))
 
-    pub read-judged : {h : Header} {t : Tables} {e : ℕ} → got t e ≡ into laid (header a s size) → h ≡ answer (judged s t e) → h ≡ read_header s size a
-    unfolding read_header
-    read-judged f g = g ∙ ap answer (by-true _ both_hold (by-got _ _ f refl))
+    module _ {t : Tables} {e : ℕ} (read : got t e ≡ into laid (header a s size)) where
+      pub rule-stops : {k : ℕ} → stop k 0 ≡ judged s t e → refusal k 0 ≡ read_header s size a
+      unfolding read_header
+      rule-stops g = answer-stop refl (by-true _ both_hold (by-got _ _ read g))
+
+      pub read-judged : {n : ℕ} → got (with_count t n) e ≡ judged s t e → record { number = 0; place = 0; end = e; tables = with_count t n } ≡ read_header s size a
+      unfolding read_header answer
+      read-judged g = ap answer (by-true _ both_hold (by-got _ _ read g))
 
 -- what follows a header
 module _ {A : Type 0} (h : Header) (f : Header → Step A) where

@@ -1,0 +1,2 @@
+-- Words of inner contracts alone: no entry's contract and no demand reaches them.
+pub mod Answers
