@@ -1,48 +1,63 @@
-// Dimensions and attributes, put into an output as the format has them. The rows are taken out of the tables where they are needed, once:
-// tables that go by value are not copied, rows of them are.
-ghost use Rattle.std.specs.Prelude.{◌+◌, ◌*◌, ◌≤◌, ◌<◌, ◌≡◌, length};
+// Rows of tables, put into an output as the format has them.
+ghost use Rattle.std.specs.Prelude.{◌≡◌, ℕ, ◌+◌, ◌*◌, ◌≤◌, ◌<◌, List, ◌++◌, length, get_or};
+ghost use Rattle.grammar.specs.declared.tables.Tables.{Tables};
 ghost use Rattle.items.specs.Types.{size_of};
-ghost use Rattle.writer.specs.Inner.Put.{Put};
-ghost use Rattle.writer.specs.Inner.Parts.{dim_out, attr_out, dims_out, dims_part, globals_out, globals_part, AttrIn, RowsIn};
+ghost use Rattle.rules.specs.Encode.{each};
+ghost use Rattle.rules.specs.Rules.{spelled};
+ghost use Rattle.writer.specs.Inner.Put.{Adds, Room};
+ghost use Rattle.writer.specs.Inner.Parts.{start_bytes, dim_out, attr_out, shape_out, tail_out, var_out, AttrIn, VarIn};
 
-use crate::put::{put_name, put_padded, put_start, put_word};
-use grammar::tables::{Attr, Dim, Tables};
+use crate::output::Output;
+use grammar::tables::{Attr, Dim, Tables, Var};
 use items::types::DataType;
 
-fn put_dim(out: &mut [u8], at: usize, text: &[u8], d: Dim) -> usize
-    requires { (d.name + d.chars ≤ length text.now) × (at + length (dim_out text.now d) ≤ length out.old) }
-    ensures { Put out.old at (dim_out text.now d) out.new result }
-{
-    let name = d.name;
-    let chars = d.chars as usize;
-    let length = d.length as u64;
-    let end = put_name(out, at, text, name, chars);
-    put_word(out, end, length)
+// What stands in the tables t, its names and values in the text.
+pub(crate) trait Item {
+    // Its bytes, and that what they need is there.
+    ghost bytes: { List ℕ → Tables → Self → List ℕ };
+
+    ghost IsThere: { List ℕ → Tables → Self → Type 0 };
+
+    fn put(&self, out: &mut Output, text: &[u8], t: &Tables)
+        requires there { IsThere text.now t.now self.now }
+        requires room { Room out.old (bytes text.now t.now self.now) }
+        ensures same { out.new.bytes.ghost_name ≡ out.old.bytes.ghost_name }
+        ensures put { Adds out.old (bytes text.now t.now self.now) out.new };
 }
 
-fn put_dim_rows(out: &mut [u8], at: usize, text: &[u8], t: Tables) -> usize
-    requires { RowsIn text.now t × (at + length (dims_out text.now t) ≤ length out.old) }
-    ensures { Put out.old at (dims_out text.now t) out.new result }
+// Items one after the other.
+fn put_each<I: Item>(out: &mut Output, text: &[u8], t: &Tables, items: &[I])
+    requires there { (i : ℕ) (x : _) → i < length items.now → x ≡ get_or items.now i x → I.IsThere text.now t.now x }
+    requires room { Room out.old (each (I.bytes text.now t.now) items.now) }
+    ensures same { out.new.bytes.ghost_name ≡ out.old.bytes.ghost_name }
+    ensures put { Adds out.old (each (I.bytes text.now t.now) items.now) out.new }
 {
-    let rows = t.dims;
-    let n = t.ndims;
-    let mut p = at;
-    let mut i = 0;
-    while i < n {
-        let d = rows[i];
-        p = put_dim(out, p, text, d);
-        i += 1;
+    for item in items {
+        item.put(out, text, t);
     }
-    p
 }
 
-// The list of dimensions.
-pub(crate) fn put_dims(out: &mut [u8], at: usize, text: &[u8], t: Tables) -> usize
-    requires { RowsIn text.now t × (at + length (dims_part text.now t) ≤ length out.old) }
-    ensures { Put out.old at (dims_part text.now t) out.new result }
+// A list of items: absent, or its tag, their number and the items.
+pub(crate) fn put_list<I: Item>(out: &mut Output, tag: u64, text: &[u8], t: &Tables, items: &[I])
+    requires tag { tag < 256 }
+    requires there { (i : ℕ) (x : _) → i < length items.now → x ≡ get_or items.now i x → I.IsThere text.now t.now x }
+    requires room { Room out.old (start_bytes tag (length items.now) ++ each (I.bytes text.now t.now) items.now) }
+    ensures same { out.new.bytes.ghost_name ≡ out.old.bytes.ghost_name }
+    ensures put { Adds out.old (start_bytes tag (length items.now) ++ each (I.bytes text.now t.now) items.now) out.new }
 {
-    let first = put_start(out, at, 10, t.ndims);
-    put_dim_rows(out, first, text, t)
+    out.start(tag, items.len());
+    put_each(out, text, t, items);
+}
+
+impl Item for Dim {
+    ghost bytes = { λ s _ d. dim_out s d };
+
+    ghost IsThere = { λ s _ d. d.name + d.chars ≤ length s };
+
+    fn put(&self, out: &mut Output, text: &[u8], _t: &Tables) {
+        out.name(text, self.name, self.chars as usize);
+        out.word(self.length as u64);
+    }
 }
 
 // The bytes of `count` values of the type of a code.
@@ -53,47 +68,67 @@ fn value_bytes(code: u64, count: u64) -> usize
     (count * DataType::of_code(code).size_of()) as usize
 }
 
-pub(crate) fn put_attr(out: &mut [u8], at: usize, text: &[u8], a: Attr) -> usize
-    requires { AttrIn text.now a × (at + length (attr_out text.now a) ≤ length out.old) }
-    ensures { Put out.old at (attr_out text.now a) out.new result }
-{
-    let name = a.name;
-    let chars = a.chars as usize;
-    let code = a.code as u64;
-    let count = a.count as u64;
-    let values = a.values;
-    let kind = put_name(out, at, text, name, chars);
-    let number = put_word(out, kind, code);
-    let start = put_word(out, number, count);
-    let bytes = value_bytes(code, count);
-    put_padded(out, start, &text[values..values + bytes])
+impl Item for Attr {
+    ghost bytes = { λ s _ a. attr_out s a };
+
+    ghost IsThere = { λ s _ a. AttrIn s a };
+
+    fn put(&self, out: &mut Output, text: &[u8], _t: &Tables) {
+        let code = self.code as u64;
+        let count = self.count as u64;
+        out.name(text, self.name, self.chars as usize);
+        out.word(code);
+        out.word(count);
+        out.padded(&text[self.values..self.values + value_bytes(code, count)]);
+    }
 }
 
-fn put_global_rows(out: &mut [u8], at: usize, text: &[u8], t: Tables) -> usize
-    requires { RowsIn text.now t × (at + length (globals_out text.now t) ≤ length out.old) }
-    ensures { Put out.old at (globals_out text.now t) out.new result }
-{
-    let n = t.globals;
-    // an empty list is not worth a copy of the rows
-    if n == 0 {
-        return at;
+// An id of a dimension.
+impl Item for u32 {
+    ghost bytes = { λ _ _ id. spelled 4 id };
+
+    ghost IsThere = { λ _ _ _. Unit {0} };
+
+    fn put(&self, out: &mut Output, _text: &[u8], _t: &Tables) {
+        out.word(*self as u64);
     }
-    let rows = t.attrs;
-    let mut p = at;
-    let mut i = 0;
-    while i < n {
-        let a = rows[i];
-        p = put_attr(out, p, text, a);
-        i += 1;
-    }
-    p
 }
 
-// The list of global attributes.
-pub(crate) fn put_globals(out: &mut [u8], at: usize, text: &[u8], t: Tables) -> usize
-    requires { RowsIn text.now t × (at + length (globals_part text.now t) ≤ length out.old) }
-    ensures { Put out.old at (globals_part text.now t) out.new result }
+// A variable's name and dimensions.
+fn put_shape(out: &mut Output, text: &[u8], t: &Tables, v: &Var)
+    requires name { v.now.name + v.now.chars ≤ length text.now }
+    requires rank { v.now.rank ≤ 8 }
+    requires room { Room out.old (shape_out text.now v.now) }
+    ensures same { out.new.bytes.ghost_name ≡ out.old.bytes.ghost_name }
+    ensures put { Adds out.old (shape_out text.now v.now) out.new }
 {
-    let first = put_start(out, at, 12, t.globals);
-    put_global_rows(out, first, text, t)
+    let rank = v.rank as usize;
+    out.name(text, v.name, v.chars as usize);
+    out.word(rank as u64);
+    put_each(out, text, t, &v.ids[..rank]);
+}
+
+// A variable's type, vsize and begin.
+fn put_tail(out: &mut Output, version: u8, v: &Var)
+    requires { Room out.old (tail_out version v.now) }
+    ensures same { out.new.bytes.ghost_name ≡ out.old.bytes.ghost_name }
+    ensures put { Adds out.old (tail_out version v.now) out.new }
+{
+    out.word(v.code as u64);
+    out.word(v.vsize);
+    out.begin(version, v.begin);
+}
+
+impl Item for Var {
+    ghost bytes = { λ s t v. var_out s t.version t.attrs v };
+
+    ghost IsThere = { λ s t v. VarIn s t.attrs v };
+
+    fn put(&self, out: &mut Output, text: &[u8], t: &Tables) {
+        let first = self.first as usize;
+        let end = first + self.attrs as usize;
+        put_shape(out, text, t, self);
+        put_list(out, 12, text, t, &t.attrs[first..end]);
+        put_tail(out, t.version, self);
+    }
 }

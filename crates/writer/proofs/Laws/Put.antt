@@ -2,11 +2,11 @@
 use Prim.Native.Nat.{ℕ, zero, suc, ◌+◌, ◌-◌, ◌/◌, ◌%◌, ◌≤◌, ◌<◌}
 use native.Mathlib.Omega.{arith}
 use native.Mathlib.Nat.{add-zero}
-use native.Mathlib.Numerals.{add-one}
 use mathlib.Core.Path.{◌≡◌, refl, sym, ap, subst, ◌∙◌}
 use mathlib.Core.List.{List, [], ◌∷◌, ◌++◌, append_assoc}
-use lib.ListN.{length, take, drop, set, get_or, replicate, length-append, length-set, length-replicate, take-append-drop}
-use lib.Seq.{set-set, take_all, take-suc, set_split, take_at, drop_at, drop-drop, length-take-le}
+use Rattle.std.specs.Int.{to_be_bytes, byte_at, w64}
+use lib.ListN.{length, take, drop, replicate, length-append, length-replicate, take-append-drop}
+use lib.Seq.{take_at, drop_at, drop-drop, length-take-le}
 use borrow.Author.Tests.{ne_eqb}
 use Rattle.cdf.specs.Form.{form}
 use Rattle.cdf.specs.Padding.{padding}
@@ -16,12 +16,14 @@ use Rattle.rules.proofs.Laws.Spelled.{length-spelled}
 use Rattle.writer.specs.Inner.Put.{Put}
 use Rattle.writer.specs.Inner.Parts.{start_bytes}
 
--- a byte; nothing; one after the other
-pub put_byte : (s : List ℕ) (at c : ℕ) → at < length s → Put s at (c ∷ []) (set s at c) (at + 1)
-put_byte s at c h = record { place = refl; bytes = set_split s at c h ∙ ap (λ (n : ℕ). take at s ++ (c ∷ drop n s)) (sym (add-one at)) }
-
-pub put-nothing : (s : List ℕ) (at : ℕ) → Put s at [] s (at + 0)
-put-nothing s at = record { place = refl; bytes = sym (ap (λ (n : ℕ). take at s ++ drop n s) (add-zero at) ∙ take-append-drop at s) }
+-- nothing, and one after the other
+pub put-nothing : (s : List ℕ) (at : ℕ) → Put s at [] s at
+put-nothing s at =
+    record {
+      place = sym (add-zero at);
+      long = refl;
+      bytes = sym (ap (λ (n : ℕ). take at s ++ drop n s) (add-zero at) ∙ take-append-drop at s);
+    }
 
 pub put_then : {s t u x y : List ℕ} {i j k : ℕ} → i + length x ≤ length s → Put s i x t j → Put t j y u k → Put s i (x ++ y) u k
 put_then {s} {t} {u} {x} {y} {i} {j} {k} h f g =
@@ -38,6 +40,7 @@ put_then {s} {t} {u} {x} {y} {i} {j} {k} h f g =
     ∙ ap (λ (n : ℕ). drop n s) (let q : i + length x + length y ≡ i + length (x ++ y) = omega arith in q) in
     record {
       place = omega arith;
+      long = g.long ∙ f.long;
       bytes =
           g.bytes ∙ ap (λ (z : List ℕ). z ++ (y ++ drop (j + length y) t)) front ∙ ap (λ (z : List ℕ). p ++ x ++ (y ++ z)) rest
           ∙ append_assoc p x (y ++ drop (i + length (x ++ y)) s) ∙ ap (λ (z : List ℕ). p ++ z) (sym (append_assoc x y (drop (i + length (x ++ y)) s)));
@@ -46,98 +49,27 @@ put_then {s} {t} {u} {x} {y} {i} {j} {k} h f g =
 pub put_is : {s t x y : List ℕ} {i j : ℕ} → Put s i x t j → x ≡ y → Put s i y t j
 put_is {s} {t} {x} {y} {i} {j} f e = subst (λ (z : List ℕ). Put s i z t j) e f
 
--- the bytes of a list, one after the other
-pub put-none : (s more : List ℕ) (at : ℕ) → Put s at (take 0 more) s (at + 0)
-put-none s more at = put-nothing s at
+-- at the start of an output
+pub put-start : {s t x : List ℕ} {r : ℕ} → Put s 0 x t r → t ≡ x ++ drop (length x) s
+put-start {s} {t} {x} f = f.bytes ∙ ap (λ (n : ℕ). x ++ drop n s) (let e : 0 + length x ≡ length x = omega arith in e)
 
-pub put-more : (s t more : List ℕ) (at i c : ℕ) → i < length more → at + length more ≤ length s → length t ≡ length s → c ≡ get_or more i 0
-    → Put s at (take i more) t (at + i) → Put s at (take (i + 1) more) (set t (at + i) c) (at + (i + 1))
-put-more s t more at i c l room same e g =
-    let a : take i more ++ (c ∷ []) ≡ take (i + 1) more = rw (add-one, take-suc more i 0 l, e) in
-    let n = length-take-le i more (omega arith) in
-    let p : at + i + 1 ≡ at + (i + 1) = omega arith in
-    subst (λ (k : ℕ). Put s at (take (i + 1) more) (set t (at + i) c) k) p (put_is (put_then (omega arith) g (put_byte t (at + i) c (omega arith))) a)
-
-pub put_all : (s t more : List ℕ) (at i : ℕ) → length more ≤ i → Put s at (take i more) t (at + i) → Put s at more t (at + i)
-put_all s t more at i l g = put_is g (take_all i more l)
-
--- zeros
-zeros-more : (n : ℕ) → ◌≡◌ {A = List ℕ} (replicate n 0 ++ (0 ∷ [])) (replicate (n + 1) 0)
-zeros-more n = more n ∙ ap (λ (k : ℕ). replicate k 0) (sym (add-one n))
-  where
-    more : (n : ℕ) → ◌≡◌ {A = List ℕ} (replicate n 0 ++ (0 ∷ [])) (replicate (suc n) 0)
-    more zero = refl
-    more (suc n) = ap (λ (l : List ℕ). 0 ∷ l) (more n)
-
-pub put-zero : (s t : List ℕ) (at i : ℕ) → at + i < length s → length t ≡ length s → Put s at (replicate i 0) t (at + i) → Put s at (replicate (i + 1) 0) (set t (at + i) 0) (at + (i + 1))
-put-zero s t at i room same g =
-    let n = length-replicate {A = ℕ} i 0 in
-    let p : at + i + 1 ≡ at + (i + 1) = omega arith in
-    subst (λ (k : ℕ). Put s at (replicate (i + 1) 0) (set t (at + i) 0) k) p (put_is (put_then (omega arith) g (put_byte t (at + i) 0 (omega arith))) (zeros-more i))
-
-pub put-zeros-all : (s t : List ℕ) (at i n : ℕ) → n ≤ i → i ≤ n → Put s at (replicate i 0) t (at + i) → Put s at (replicate n 0) t (at + i)
-put-zeros-all s t at i n l h g = put_is g (ap (λ (k : ℕ). replicate k 0) (let e : i ≡ n = omega arith in e))
-
--- at most three zeros: the first, one in the middle, the last
-module _ (s : List ℕ) (at : ℕ) where
-  zero_one : at + 1 ≤ length s → Put s at (replicate 1 0) (set s at 0) (at + 1)
-  zero_one h = put_byte s at 0 (omega arith)
-
-  zero-two : at + 2 ≤ length s → Put s at (replicate 2 0) (set (set s at 0) (at + 1) 0) (at + 2)
-  zero-two h = put-zero s (set s at 0) at 1 (omega arith) (length-set s at 0) (zero_one (omega arith))
-
-  zero-three : at + 3 ≤ length s → Put s at (replicate 3 0) (set (set (set s at 0) (at + 1) 0) (at + 2) 0) (at + 3)
-  zero-three h = put-zero s (set (set s at 0) (at + 1) 0) at 2 (omega arith) (length-set (set s at 0) (at + 1) 0 ∙ length-set s at 0) (zero-two (omega arith))
-
-  pub pad-none : (n : ℕ) → n ≡ 0 → Put s at (replicate n 0) s at
-  pad-none n e = subst (λ (k : ℕ). Put s at (replicate k 0) s at) (sym e) (subst (λ (k : ℕ). Put s at [] s k) (add-zero at) (put-nothing s at))
-
-  -- at the places i and j
-  pads : (n i j : ℕ) → i ≡ n / 2 → j + 1 ≡ n → n ≤ 3 → at + n ≤ length s → Put s at (replicate n 0) (set (set (set s at 0) (at + i) 0) (at + j) 0) (at + n)
-  pads zero i j e f l h = absurd (omega arith)
-  pads (suc zero) i j e f l h =
-      let a : at + i ≡ at = omega arith in
-      let b : at + j ≡ at = omega arith in
-      let q : set (set (set s at 0) at 0) at 0 ≡ set s at 0 = set-set (set s at 0) at 0 0 ∙ set-set s at 0 0 in
-      rw (a, b, q) (zero_one h)
-  pads (suc (suc zero)) i j e f l h =
-      let a : i ≡ 1 = omega arith in
-      let b : j ≡ 1 = omega arith in
-      rw (a, b, set-set (set s at 0) (at + 1) 0 0) (zero-two h)
-  pads (suc (suc (suc zero))) i j e f l h =
-      let a : i ≡ 1 = omega arith in
-      let b : j ≡ 2 = omega arith in
-      rw (a, b) (zero-three h)
-  pads (suc (suc (suc (suc n)))) i j e f l h = absurd (omega arith)
-
-  pub pad-some : (n : ℕ) → (n ≡ 0 → ⊥) → n ≤ 3 → at + n ≤ length s → Put s at (replicate n 0) (set (set (set s at 0) (at + n / 2) 0) (at + n - 1) 0) (at + n)
-  pad-some n z l h =
-      let k : n - 1 + 1 ≡ n = omega (arith, z) in
-      let e : at + (n - 1) ≡ at + n - 1 = omega arith in
-      subst (λ (m : ℕ). Put s at (replicate n 0) (set (set (set s at 0) (at + n / 2) 0) m 0) (at + n)) e (pads n (n / 2) (n - 1) refl k l h)
-
--- four bytes
-pub put_four : (s : List ℕ) (at a b c d : ℕ) → at + 4 ≤ length s → Put s at (a ∷ b ∷ c ∷ d ∷ []) (set (set (set (set s at a) (at + 1) b) (at + 2) c) (at + 3) d) (at + 4)
-put_four s at a b c d h =
-    let s₁ = set s at a in
-    let s₂ = set s₁ (at + 1) b in
-    let s₃ = set s₂ (at + 2) c in
-    let l₁ = length-set s at a in
-    let l₂ = length-set s₁ (at + 1) b in
-    let l₃ = length-set s₂ (at + 2) c in
-    let f = put_byte s at a (omega arith) in
-    let g = put_then {j = at + 1} (omega arith) f (put_byte s₁ (at + 1) b (omega arith)) in
-    let i = put_then {j = at + 2} (omega arith) (at_place (at + 1 + 1) (at + 2) (omega arith) g) (put_byte s₂ (at + 2) c (omega arith)) in
-    let j = put_then {j = at + 3} (omega arith) (at_place (at + 2 + 1) (at + 3) (omega arith) i) (put_byte s₃ (at + 3) d (omega arith)) in
-    at_place (at + 3 + 1) (at + 4) (omega arith) j
-  where
-    at_place : {x t : List ℕ} (m n : ℕ) → m ≡ n → Put s at x t m → Put s at x t n
-    at_place {x} {t} m n e f = subst (λ (k : ℕ). Put s at x t k) e f
-
-pub put-spelled : (s : List ℕ) (at v : ℕ) → at + 4 ≤ length s
-    → Put s at (spelled 4 v) (set (set (set (set s at (v / 256 / 256 / 256 % 256)) (at + 1) (v / 256 / 256 % 256)) (at + 2) (v / 256 % 256)) (at + 3) (v % 256)) (at + 4)
+-- the eight bytes of a number, and the last four of them
+pub eight-bytes : (v : ℕ) → to_be_bytes w64 v ≡ spelled 8 v
 unfolding spelled
-put-spelled s at v h = put_four s at (v / 256 / 256 / 256 % 256) (v / 256 / 256 % 256) (v / 256 % 256) (v % 256) h
+eight-bytes v =
+    let a : byte_at 1 v ≡ v / 256 % 256 = omega arith in
+    let b : byte_at 2 v ≡ v / 256 / 256 % 256 = omega arith in
+    let c : byte_at 3 v ≡ v / 256 / 256 / 256 % 256 = omega arith in
+    let d : byte_at 4 v ≡ v / 256 / 256 / 256 / 256 % 256 = omega arith in
+    let e : byte_at 5 v ≡ v / 256 / 256 / 256 / 256 / 256 % 256 = omega arith in
+    let f : byte_at 6 v ≡ v / 256 / 256 / 256 / 256 / 256 / 256 % 256 = omega arith in
+    let g : byte_at 7 v ≡ v / 256 / 256 / 256 / 256 / 256 / 256 / 256 % 256 = omega arith in
+    let h : byte_at 0 v ≡ v % 256 = omega arith in
+    λ i. g i ∷ f i ∷ e i ∷ d i ∷ c i ∷ b i ∷ a i ∷ h i ∷ []
+
+pub four-bytes : (v : ℕ) → take 4 (drop 4 (to_be_bytes w64 v)) ≡ spelled 4 v
+unfolding spelled
+four-bytes v = ap (λ (z : List ℕ). take 4 (drop 4 z)) (eight-bytes v)
 
 -- a byte as a word, and eight bytes as two words
 spelled-small : (n : ℕ) → n < 256 → spelled 4 n ≡ 0 ∷ 0 ∷ 0 ∷ n ∷ []
@@ -148,17 +80,6 @@ spelled-small n h =
     let c : n / 256 % 256 ≡ 0 = omega arith in
     let d : n % 256 ≡ n = omega arith in
     rw (a, b, c, d) refl
-
-halves : (v : ℕ) → spelled 4 (v / 4294967296) ++ spelled 4 (v % 4294967296) ≡ spelled 8 v
-unfolding spelled
-halves v =
-    let w = v % 4294967296 in
-    let e : v / 4294967296 ≡ v / 256 / 256 / 256 / 256 = omega arith in
-    let a : w / 256 / 256 / 256 % 256 ≡ v / 256 / 256 / 256 % 256 = omega arith in
-    let b : w / 256 / 256 % 256 ≡ v / 256 / 256 % 256 = omega arith in
-    let c : w / 256 % 256 ≡ v / 256 % 256 = omega arith in
-    let d : w % 256 ≡ v % 256 = omega arith in
-    rw (e, a, b, c, d) refl
 
 -- what is put in parts
 module _ {s t u : List ℕ} {i j k : ℕ} where
@@ -180,11 +101,6 @@ module _ {s t u : List ℕ} {i j k : ℕ} where
   put-tagged tag (suc n) h l room f g =
       let m = length-spelled 4 tag in
       put_then (omega arith) (put_is f (spelled-small tag h)) g
-
-  pub put-wide : (v : ℕ) → i + 8 ≤ length s → Put s i (spelled 4 (v / 4294967296)) t j → Put t j (spelled 4 (v % 4294967296)) u k → Put s i (spelled 8 v) u k
-  put-wide v room f g =
-      let m = length-spelled 4 (v / 4294967296) in
-      put_is (put_then (omega arith) f g) (halves v)
 
 -- how long the parts are
 pub length-padded_out : (b : List ℕ) → length (padded_out b) ≡ length b + padding (length b)
@@ -209,21 +125,8 @@ pub slice-part : (at n : ℕ) → at + n - at ≡ n
 slice-part at n = omega arith
 
 -- a begin by its version
-begin-four : (v : ℕ) → v ≡ 1 → (form v).begin_bytes ≡ 4
+pub begin-four : (v : ℕ) → v ≡ 1 → (form v).begin_bytes ≡ 4
 begin-four v e = rw e refl
 
-begin-eight : (v : ℕ) → (v ≡ 1 → ⊥) → (form v).begin_bytes ≡ 8
+pub begin-eight : (v : ℕ) → (v ≡ 1 → ⊥) → (form v).begin_bytes ≡ 8
 begin-eight v e = rw (ne_eqb v 1 e) refl
-
-pub narrow-room : (v at n : ℕ) → v ≡ 1 → at + (form v).begin_bytes ≤ n → at + 4 ≤ n
-narrow-room v at n e h = let b = begin-four v e in omega arith
-
-pub wide_room : (v at n : ℕ) → (v ≡ 1 → ⊥) → at + (form v).begin_bytes ≤ n → at + 8 ≤ n
-wide_room v at n e h = let b = begin-eight v e in omega arith
-
-pub put-narrow : {s t : List ℕ} {i j : ℕ} (version v : ℕ) → version ≡ 1 → Put s i (spelled 4 v) t j → Put s i (spelled (form version).begin_bytes v) t j
-put-narrow version v e f = put_is f (ap (λ (k : ℕ). spelled k v) (sym (begin-four version e)))
-
-pub put-wide-begin : {s t u : List ℕ} {i j k : ℕ} (version v : ℕ) → (version ≡ 1 → ⊥) → i + 8 ≤ length s → Put s i (spelled 4 (v / 4294967296)) t j → Put t j (spelled 4 (v % 4294967296)) u k
-    → Put s i (spelled (form version).begin_bytes v) u k
-put-wide-begin version v e room f g = put_is (put-wide v room f g) (ap (λ (k : ℕ). spelled k v) (sym (begin-eight version e)))

@@ -1,12 +1,13 @@
 -- Laws of rows that are put into an output, one after the other.
 use Prim.Native.Nat.{ℕ, zero, suc, ◌+◌, ◌*◌, ◌≤◌, ◌<◌}
 use native.Mathlib.Omega.{arith}
-use native.Mathlib.Nat.{add-zero, mul-le-mul_left}
+use native.Mathlib.Nat.{mul-le-mul_left}
 use native.Mathlib.Numerals.{add-one}
-use mathlib.Core.Path.{◌≡◌, sym, ap, subst, ◌∙◌}
+use mathlib.Core.Path.{◌≡◌, sym, ap, ◌∙◌}
 use mathlib.Core.List.{List, [], ◌∷◌, ◌++◌, append_assoc, append-nil}
 use lib.ListN.{length, take, drop, get_or, length-append}
-use lib.Seq.{take-suc, get_or-drop}
+use Rattle.std.proofs.lemmas.List.{get_or_default}
+use lib.Seq.{take-suc, take_all, get_or-take, get_or-drop}
 use Rattle.cdf.specs.Form.{form}
 use Rattle.items.specs.Name.{part}
 use Rattle.items.specs.Types.{size_of}
@@ -40,26 +41,42 @@ each-less g (x ∷ xs) (suc i) (suc n) h =
     let c = each-less g xs i n (omega arith) in
     omega arith
 
--- items one after the other, in an output of `room` bytes
-module _ {A : Type 0} (g : A → List ℕ) (xs : List A) (at n room : ℕ) (fits : at + length (each g (take n xs)) ≤ room) where
-  pub item_room : (i p : ℕ) (d : A) → i < n → i < length xs → p ≡ at + length (each g (take i xs)) → p + length (g (get_or xs i d)) ≤ room
-  item_room i p d h l e =
-      let a = ap length (each_more g xs i d l) ∙ length-append (each g (take i xs)) (g (get_or xs i d)) in
-      let b = each-less g xs (i + 1) n (omega arith) in
-      omega arith
+-- items one after the other: the first i of them have been put into an output that has room for all
+pub record Items {A : Type 0} (g : A → List ℕ) (xs : List A) (before : List ℕ) (at : ℕ) (after : List ℕ) (r i : ℕ) : Type 0 where
+  pub few : i ≤ length xs
+  pub room : at + length (each g xs) ≤ length before
+  pub put : Put before at (each g (take i xs)) after r
 
-  pub put_item : {s t u : List ℕ} (i p q : ℕ) (d : A) → i < n → i < length xs → length s ≡ room → Put s at (each g (take i xs)) t p → Put t p (g (get_or xs i d)) u q → Put s at (each g (take (i + 1) xs)) u q
-  put_item i p q d h l r f e = let b = each-less g xs i n (omega arith) in put_is (put_then (omega arith) f e) (sym (each_more g xs i d l))
-
-pub put_first : {A : Type 0} (g : A → List ℕ) (xs : List A) (s : List ℕ) (at : ℕ) → Put s at (each g (take 0 xs)) s at
+pub no-items : {A : Type 0} (g : A → List ℕ) (xs : List A) (s : List ℕ) (at : ℕ) → at + length (each g xs) ≤ length s → Items g xs s at s at 0
 unfolding each
-put_first g xs s at = subst (λ (k : ℕ). Put s at [] s k) (add-zero at) (put-nothing s at)
+no-items g xs s at h = record { few = omega arith; room = h; put = put-nothing s at }
 
-pub put-no-items : {A : Type 0} {s : List ℕ} {at n : ℕ} (g : A → List ℕ) (xs : List A) → n ≡ 0 → Put s at (each g (take n xs)) s at
-put-no-items {s = s} {at = at} g xs e = put_is (put_first g xs s at) (ap (λ (k : ℕ). each g (take k xs)) (sym e))
+module _ {A : Type 0} {g : A → List ℕ} {xs : List A} {s t : List ℕ} {at p i : ℕ} (f : Items g xs s at t p i) where
+  module _ {x : A} (h : i < length xs) (is : x ≡ get_or xs i x) where
+    more : each g (take (i + 1) xs) ≡ each g (take i xs) ++ g x
+    more = each_more g xs i x h ∙ ap (λ (y : A). each g (take i xs) ++ g y) (sym is)
 
-pub put_last : {A : Type 0} {s t : List ℕ} {at p : ℕ} (g : A → List ℕ) (xs : List A) (i n : ℕ) → n ≤ i → i ≤ n → Put s at (each g (take i xs)) t p → Put s at (each g (take n xs)) t p
-put_last g xs i n h l f = put_is f (ap (λ (k : ℕ). each g (take k xs)) (let e : i ≡ n = omega arith in e))
+    up : length (each g (take (i + 1) xs)) ≤ length (each g xs)
+    up = let e = ap (λ (ys : List A). length (each g ys)) (take_all (length xs) xs (omega arith)) in let l = each-less g xs (i + 1) (length xs) (omega arith) in omega arith
+
+    pub item-room : p + length (g x) ≤ length t
+    item-room =
+        let a = ap length more ∙ length-append (each g (take i xs)) (g x) in
+        let b = up in
+        let q = f.put in
+        let r = f.room in
+        omega arith
+
+    pub one-item : {u : List ℕ} {q : ℕ} → Put t p (g x) u q → Items g xs s at u q (i + 1)
+    one-item e =
+        let a = ap length more ∙ length-append (each g (take i xs)) (g x) in
+        let b = up in
+        let q = f.put in
+        let r = f.room in
+        record { few = omega arith; room = r; put = put_is (put_then (omega arith) q e) (sym more) }
+
+  pub all-items : length xs ≤ i → Put s at (each g xs) t p
+  all-items h = put_is f.put (ap (each g) (take_all i xs h))
 
 -- a list: its start, and its items
 pub put-list : {s t u : List ℕ} {i j k : ℕ} (tag n : ℕ) (items : List ℕ) → i + length (start_bytes tag n ++ items) ≤ length s → Put s i (start_bytes tag n) t j → Put t j items u k → Put s i (start_bytes tag n ++ items) u k
@@ -95,11 +112,11 @@ length-attr s a =
     let m = length-spelled 4 a.count in
     omega arith
 
-pub put-attr : {o t u v w : List ℕ} {i j k l m : ℕ} (s : List ℕ) (a : Attr) → i + length (attr_out s a) ≤ length o → length t ≡ length o → length u ≡ length o
+pub put-attr : {o t u v w : List ℕ} {i j k l m : ℕ} (s : List ℕ) (a : Attr) → i + length (attr_out s a) ≤ length o
     → Put o i (name_bytes (form 1) (part s a.name a.chars)) t j → Put t j (spelled 4 a.code) u k → Put u k (spelled 4 a.count) v l
     → Put v l (padded_out (part s a.values (a.count * size_of a.code))) w m → Put o i (attr_out s a) w m
 unfolding attr_bytes
-put-attr s a room p q f g h e =
+put-attr s a room f g h e =
     let b = length-attr s a in
     let x = length-spelled 4 a.code in
     let y = length-spelled 4 a.count in
@@ -107,9 +124,13 @@ put-attr s a room p q f g h e =
     let d = g.place in
     put_then (omega arith) f (put_then (omega arith) g (put_then (omega arith) h e))
 
--- a span of rows
-pub nth_drop : {A : Type 0} (xs : List A) (first i : ℕ) (d : A) → get_or (drop first xs) i d ≡ get_or xs (first + i) d
-nth_drop xs first i d = get_or-drop first xs i d
+-- a row of a span of rows
+pub in-span : {A : Type 0} (xs : List A) (first n i : ℕ) (d x : A) → i < n → first + i < length xs → x ≡ get_or (take n (drop first xs)) i x → x ≡ get_or xs (first + i) d
+in-span xs first n i d x h l e = e ∙ get_or-take n (drop first xs) i x h ∙ get_or-drop first xs i x ∙ get_or_default xs (first + i) x d l
+
+-- and of the first rows
+pub in-front : {A : Type 0} (xs : List A) (n i : ℕ) (d x : A) → i < n → i < length xs → x ≡ get_or (take n xs) i x → x ≡ get_or xs i d
+in-front xs n i d x h l e = e ∙ get_or-take n xs i x h ∙ get_or_default xs i x d l
 
 -- the bytes of values fit 64 bits by far
 pub bytes-fit-wide : (count width : ℕ) → count < 4294967296 → width ≤ 8 → count * width < 34359738368

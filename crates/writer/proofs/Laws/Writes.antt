@@ -1,14 +1,15 @@
 -- Laws of what the writer answers.
 use Prim.Native.Nat.{ℕ, ◌+◌, ◌≤◌, ◌<◌}
 use native.Mathlib.Omega.{arith}
-use native.Mathlib.Nat.{zero-add}
 use mathlib.Core.Path.{◌≡◌, refl, sym, ap, ◌∙◌}
 use mathlib.Core.Bool.{true, false}
 use mathlib.Core.List.{List, ◌++◌}
 use lib.ListN.{length, drop}
 use lib.Dec.{leb}
 use borrow.Author.Tests.{le-leb, lt-leb, leb-true}
+use Rattle.std.specs.Prelude.{Ok, Err}
 use Rattle.cdf.specs.Step.{got, stop}
+use Rattle.cdf.specs.declared.refusal.Refusal.TheVariants.{OutputRoom, Tables as Refused}
 use Rattle.cdf.proofs.Laws.Below.{both}
 use Rattle.cdf.proofs.Laws.Step.{by-true, by-false, leaves-stop, leaves-got}
 use Rattle.grammar.specs.Tables.{attr_at, var_at}
@@ -21,22 +22,21 @@ use Rattle.order.proofs.Laws.Inside.{Inside, inside}
 use Rattle.order.proofs.Laws.Rows.{FullRows}
 use Rattle.order.proofs.Laws.Said.{RowsAre, tested-rows, tested-is}
 use Rattle.order.proofs.Laws.Lengths.{encoded-length}
-use Rattle.writer.specs.Inner.Put.{Put}
 use Rattle.writer.specs.Inner.Parts.{header_out, AttrIn, RowsIn}
 use Rattle.writer.specs.Writes.{write_header, length_of, Writes}
 use Rattle.writer.proofs.Laws.Whole.{Enough, encode-out}
 
 module _ (s : List ℕ) (t : Tables) (out : List ℕ) where
-  pub writes-23 : writable s t ≡ false → Writes out (write_header s t out) (record { number = 23; length = 0 }) out
+  pub writes-23 : writable s t ≡ false → Writes out (write_header s t out) (Err Refused) out
   unfolding write_header
   writes-23 e = let f : stop 23 0 ≡ write_header s t out = by-false _ e refl in (leaves-stop out f, ap length_of f)
 
-  pub writes-22 : writable s t ≡ true → length out < length (encode (to_write s t)) → Writes out (write_header s t out) (record { number = 22; length = 0 }) out
+  pub writes-22 : writable s t ≡ true → length out < length (encode (to_write s t)) → Writes out (write_header s t out) (Err OutputRoom) out
   unfolding write_header
   writes-22 e h = let f : stop 22 0 ≡ write_header s t out = by-true _ e (by-false _ (lt-leb _ _ h) refl) in (leaves-stop out f, ap length_of f)
 
   pub writes-all : {new : List ℕ} (n : ℕ) → writable s t ≡ true → length (encode (to_write s t)) ≤ length out → n ≡ length (encode (to_write s t)) → new ≡ encode (to_write s t) ++ drop (length (encode (to_write s t))) out
-      → Writes out (write_header s t out) (record { number = 0; length = n }) new
+      → Writes out (write_header s t out) (Ok n) new
   unfolding write_header
   writes-all n e h l g =
       let f : got (encode (to_write s t) ++ drop (length (encode (to_write s t))) out) (length (encode (to_write s t))) ≡ write_header s t out = by-true _ e (by-true _ (le-leb _ _ h) refl) in
@@ -101,5 +101,5 @@ module _ (s : List ℕ) (t : Tables) (full : FullRows t) (ok : writable s t ≡ 
   out-length = encoded-length s t full rows
 
   -- what the output is then
-  pub put-header : {out new : List ℕ} {r : ℕ} → Put out 0 (header_out s t) new r → new ≡ encode (to_write s t) ++ drop (length (encode (to_write s t))) out
-  put-header {out} {new} {r} f = f.bytes ∙ ap (λ (z : List ℕ). z ++ drop (0 + length z) out) (sym out-is) ∙ ap (λ (n : ℕ). encode (to_write s t) ++ drop n out) (zero-add (length (encode (to_write s t))))
+  pub put-header : (out : List ℕ) {new : List ℕ} → new ≡ header_out s t ++ drop (length (header_out s t)) out → new ≡ encode (to_write s t) ++ drop (length (encode (to_write s t))) out
+  put-header out f = f ∙ ap (λ (z : List ℕ). z ++ drop (length z) out) (sym out-is)

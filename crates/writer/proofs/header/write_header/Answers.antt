@@ -19,15 +19,18 @@ returns-then-out-length c =
     let e = c.judged-verdict.ensures.1 (not-false _ c.if-not-verdict.false) in
     writes-22 _ _ _ ok (omega (arith, c.if-out-length.true))
 
-pub put_header-requires : goal.put_header-requires
-put_header-requires c =
+pub put_first-requires-clause-there : goal.put_first-requires-clause-there
+put_first-requires-clause-there c = rows_in c.args.text.now c.args.t (full-rows c.args.t _ c.well_formed.0) (holds c.judged-verdict.ensures.0 (not-false _ c.if-not-verdict.false))
+
+pub put_first-requires-clause-room : goal.put_first-requires-clause-room
+put_first-requires-clause-room c =
     let t = c.args.t in
     let full = full-rows t _ c.well_formed.0 in
     let ok = holds c.judged-verdict.ensures.0 (not-false _ c.if-not-verdict.false) in
     let l = out-length c.args.text.now t full ok in
     let e = c.judged-verdict.ensures.1 (not-false _ c.if-not-verdict.false) in
     let m = ap length (out-is c.args.text.now t full ok) in
-    (rows_in c.args.text.now t full ok, omega (arith, c.if-out-length.false))
+    omega (arith, c.if-out-length.false)
 
 pub returns : goal.returns
 returns c =
@@ -36,4 +39,4 @@ returns c =
     let ok = holds c.judged-verdict.ensures.0 (not-false _ c.if-not-verdict.false) in
     let l = out-length c.args.text.now t full ok in
     let e = c.judged-verdict.ensures.1 (not-false _ c.if-not-verdict.false) in
-    writes-all c.args.text.now t _ c.judged-verdict.result.length ok (omega (arith, c.if-out-length.false)) (omega arith) (put-header c.args.text.now t full ok c.put_header.ensures)
+    writes-all c.args.text.now t _ c.judged-verdict.result.length ok (omega (arith, c.if-out-length.false)) (omega arith) (put-header c.args.text.now t full ok c.args.out.now c.put_first.ensures)

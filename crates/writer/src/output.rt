@@ -1,0 +1,102 @@
+// An output, which bytes, words and names are put into, one after the other.
+ghost use Rattle.std.specs.Prelude.{◌≡◌, ◌+◌, ◌≤◌, ◌<◌, length, replicate};
+ghost use Rattle.cdf.specs.Form.{form};
+ghost use Rattle.items.specs.Name.{part};
+ghost use Rattle.rules.specs.Rules.{spelled};
+ghost use Rattle.rules.specs.Encode.{padded_out, name_bytes};
+ghost use Rattle.writer.specs.Inner.Put.{Adds, Room};
+ghost use Rattle.writer.specs.Inner.Parts.{start_bytes};
+
+use cdf::padding::compute_padding_size;
+
+// The next byte goes to `at`.
+#[derive(Drop)]
+pub(crate) struct Output<'a> {
+    pub(crate) bytes: &'a mut [u8],
+    pub(crate) at: usize,
+}
+
+impl<'a> Output<'a> {
+    pub(crate) fn put(&mut self, more: &[u8])
+        requires { Room self.old more.now }
+        ensures same { self.new.bytes.ghost_name ≡ self.old.bytes.ghost_name }
+        ensures put { Adds self.old more.now self.new }
+    {
+        let at = self.at;
+        let end = at + more.len();
+        let bytes = &mut *self.bytes;
+        bytes[at..end].copy_from_slice(more);
+        self.at = end;
+    }
+
+    fn zeros(&mut self, n: usize)
+        requires { self.old.at + n ≤ length self.old.bytes.now }
+        ensures same { self.new.bytes.ghost_name ≡ self.old.bytes.ghost_name }
+        ensures put { Adds self.old (replicate n 0) self.new }
+    {
+        let at = self.at;
+        let end = at + n;
+        let bytes = &mut *self.bytes;
+        bytes[at..end].fill(0);
+        self.at = end;
+    }
+
+    // A word of four bytes, the most significant first.
+    pub(crate) fn word(&mut self, v: u64)
+        requires { self.old.at + 4 ≤ length self.old.bytes.now }
+        ensures same { self.new.bytes.ghost_name ≡ self.old.bytes.ghost_name }
+        ensures put { Adds self.old (spelled 4 v) self.new }
+    {
+        let bytes = v.to_be_bytes();
+        self.put(&bytes[4..]);
+    }
+
+    // Bytes and their padding.
+    pub(crate) fn padded(&mut self, more: &[u8])
+        requires { Room self.old (padded_out more.now) }
+        ensures same { self.new.bytes.ghost_name ≡ self.old.bytes.ghost_name }
+        ensures put { Adds self.old (padded_out more.now) self.new }
+    {
+        self.put(more);
+        self.zeros(compute_padding_size(more.len() as u64) as usize);
+    }
+
+    // A name, which stands in the text at `name`.
+    pub(crate) fn name(&mut self, text: &[u8], name: usize, chars: usize)
+        requires inside { name + chars ≤ length text.now }
+        requires room { Room self.old (name_bytes (form 1) (part text.now name chars)) }
+        ensures same { self.new.bytes.ghost_name ≡ self.old.bytes.ghost_name }
+        ensures put { Adds self.old (name_bytes (form 1) (part text.now name chars)) self.new }
+    {
+        self.word(chars as u64);
+        self.padded(&text[name..name + chars]);
+    }
+
+    // How a list of `n` items starts: absent, or its tag and their number.
+    pub(crate) fn start(&mut self, tag: u64, n: usize)
+        requires tag { tag < 256 }
+        requires room { self.old.at + 8 ≤ length self.old.bytes.now }
+        ensures same { self.new.bytes.ghost_name ≡ self.old.bytes.ghost_name }
+        ensures put { Adds self.old (start_bytes tag n) self.new }
+    {
+        if n == 0 {
+            self.zeros(8);
+        } else {
+            self.word(tag);
+            self.word(n as u64);
+        }
+    }
+
+    // A begin, in the width of the version.
+    pub(crate) fn begin(&mut self, version: u8, v: u64)
+        requires { self.old.at + (form version).begin_bytes ≤ length self.old.bytes.now }
+        ensures same { self.new.bytes.ghost_name ≡ self.old.bytes.ghost_name }
+        ensures put { Adds self.old (spelled (form version).begin_bytes v) self.new }
+    {
+        if version == 1 {
+            self.word(v);
+        } else {
+            self.put(&v.to_be_bytes());
+        }
+    }
+}
