@@ -2,4 +2,3 @@
 pub mod Header
 pub mod Refusals
 pub mod Accepted
-pub mod Parsed

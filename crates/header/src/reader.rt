@@ -4,11 +4,13 @@ ghost use Rattle.grammar.specs.Inner.Within.{Within};
 ghost use Rattle.header.specs.Header.{judged, Conforms};
 ghost use Rattle.header.specs.Inner.Answers.{counted};
 
-use crate::parsed::{parse_header, record_count};
 use cdf::refusal::{Refusal, Stop};
 use cdf::version::Admitted;
 use grammar::tables::{MAX_POSITION, Tables};
+use grammar::whole::parse_header;
+use model::checked::Checked;
 use model::rules::model_holds;
+use sizes::count::record_count;
 use sizes::records::{ends_hold, measure};
 
 // A header that is accepted: where it ends, and its tables.
@@ -23,14 +25,13 @@ fn judged(s: &[u8], t: &Tables) -> Result<u64, Refusal>
     requires { Within t.now }
     ensures { (end : ℕ) → counted t.now end result ≡ judged s.now t.now end }
 {
-    if !model_holds(s, *t) {
+    if !model_holds(s, t) {
         return Err(Refusal::Model);
     }
-    let z = measure(*t);
-    if !z.hold {
+    let Some(z) = measure(t) else {
         return Err(Refusal::Sizes);
-    }
-    let count = record_count(*t, z)?;
+    };
+    let count = record_count(Checked { tables: t }, z)?;
     if !ends_hold(z, count) {
         return Err(Refusal::Ends);
     }

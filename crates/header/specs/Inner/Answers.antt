@@ -7,11 +7,6 @@ use Rattle.cdf.specs.declared.refusal.Refusal.{Refusal}
 use Rattle.grammar.specs.Tables.{with_count}
 use Rattle.grammar.specs.declared.tables.Tables.{Tables}
 
--- the tables and where the header ends, or the refusal
-abbrev pub of_header : Result (Tables × ℕ) Stop → Step Tables
-of_header (Ok (t, n)) = got t n
-of_header (Err r) = stop (number r.why) r.place
-
 -- tables whose header ends at a place, with the record count that they were found to have, or the refusal
 abbrev pub counted : Tables → ℕ → Result ℕ Refusal → Step Tables
 counted t e (Ok n) = got (with_count t n) e
