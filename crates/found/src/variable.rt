@@ -1,8 +1,6 @@
 // The variable that a read asks for, in tables that are tested first.
-#![tactic(auto, unfolding(crate::specs::Sought::sought, cdf::specs::Step::test))]
 
-ghost use Rattle.std.specs.Prelude.{◌≡◌, cond, ℕ, ◌≤◌, ◌<◌};
-ghost use Rattle.grammar.specs.Tables.{id_at};
+ghost use Rattle.std.specs.Prelude.{◌≡◌, cond, ◌≤◌};
 ghost use Rattle.sizes.specs.Records.{chunk, record_size, max_chunk};
 ghost use Rattle.cdf.specs.Refusals.{of_result};
 ghost use Rattle.found.specs.Sought.{spread, sought};
@@ -33,16 +31,16 @@ fn records_of(records: bool, count: u64) -> u64
 }
 
 // The numbers of a row of tables that hold.
-fn described(t: &Tables, v: Var, step: u64) -> Spread
-    requires { (v.rank ≤ 8) × ((k : ℕ) → k < v.rank → id_at v k < 32) × (1 ≤ v.code) × (v.code ≤ 6) × (chunk t.now.dims v ≤ max_chunk) × (step ≡ record_size t.now) }
-    ensures { result ≡ spread t.now v }
+fn described(t: &Tables, v: &Var, step: u64) -> Spread
+    requires { (v.now.rank ≤ 8) × (1 ≤ v.now.code) × (v.now.code ≤ 6) × (chunk t.now.dims v.now ≤ max_chunk) × (step ≡ record_size t.now) }
+    ensures { result ≡ spread t.now v.now }
 {
     let kind = DataType::of_code(v.code as u64);
     Spread {
         begin: v.begin,
-        records: records_of(is_record(t.dims, v), t.count),
+        records: records_of(is_record(&t.dims, v), t.count),
         step,
-        chunk: chunk_len(t.dims, v),
+        chunk: chunk_len(&t.dims, v),
         width: kind.size_of(),
         code: v.code,
     }
@@ -52,12 +50,11 @@ fn described(t: &Tables, v: Var, step: u64) -> Spread
 pub fn seek(t: &Tables, i: usize) -> Result<Spread, Refusal>
     ensures { of_result result ≡ sought t.now i }
 {
-    let tested = tables_hold(*t);
-    if !tested.hold {
+    let Some(step) = tables_hold(t) else {
         return Err(Refusal::Tables);
-    }
+    };
     if t.nvars <= i {
         return Err(Refusal::NoVariable);
     }
-    Ok(described(t, t.vars[i], tested.step))
+    Ok(described(t, &t.vars[i], step))
 }

@@ -2,14 +2,13 @@
 use Prim.Native.Nat.{ℕ, ◌≤◌, ◌<◌}
 use native.Mathlib.Omega.{arith}
 use native.Mathlib.Nat.{le-mul_of_pos_right}
-use mathlib.Core.Path.{◌≡◌, sym, ap, ◌∙◌}
+use mathlib.Core.Path.{◌≡◌, refl, sym, ap, ◌∙◌}
 use mathlib.Core.Bool.{true, false, cond}
-use lib.Dec.{leb}
-use borrow.Author.Tests.{lt-leb, le-leb, leb-true, eqb-true}
+use borrow.Author.Tests.{le-leb, leb-true, lt-ltb, le-ltb, eqb-true}
 use Rattle.cdf.specs.Below.{all_below}
-use Rattle.cdf.specs.Step.{got}
-use Rattle.cdf.proofs.Laws.Below.{both, all_hold, one-fails, holds_at}
-use Rattle.cdf.proofs.Laws.Step.{bind-came, test-came, got_same}
+use Rattle.cdf.specs.Step.{got, stop}
+use Rattle.cdf.proofs.Laws.Below.{both, holds_at}
+use Rattle.cdf.proofs.Laws.Step.{by-true, by-false, bind-came, test-came, got_same}
 use Rattle.items.specs.Types.{size_of}
 use Rattle.grammar.specs.Tables.{var_at}
 use Rattle.grammar.specs.Inner.Within.{Shaped}
@@ -24,34 +23,10 @@ use Rattle.found.specs.Sought.{shape_holds, tables_hold, spread, sought, sought_
 use Rattle.found.specs.Inner.Row.{row_holds}
 use Rattle.found.specs.declared.variable.Spread.{Spread}
 
-module _ (v : Var) where
-  pub row-rank : 8 < v.rank → false ≡ row_holds v
-  row-rank h = sym (rw (lt-leb v.rank 8 h))
-
-  pub row_low : v.rank ≤ 8 → v.code < 1 → false ≡ row_holds v
-  row_low h l = sym (rw (le-leb v.rank 8 h, lt-leb 1 v.code l))
-
-  pub row-high : v.rank ≤ 8 → 1 ≤ v.code → leb v.code 6 ≡ row_holds v
-  row-high h l = sym (rw (le-leb v.rank 8 h, le-leb 1 v.code l))
-
 module _ (t : Tables) where
-  pub shape-dims : 32 < t.ndims → false ≡ shape_holds t
+  pub shape-is : t.ndims ≤ 32 → t.nvars ≤ 64 → all_below t.nvars (λ i. row_holds (var_at t i)) ≡ shape_holds t
   unfolding shape_holds
-  shape-dims h = sym (rw (lt-leb t.ndims 32 h))
-
-  module _ (dims : t.ndims ≤ 32) where
-    pub shape-vars : 64 < t.nvars → false ≡ shape_holds t
-    unfolding shape_holds
-    shape-vars h = sym (rw (le-leb t.ndims 32 dims, lt-leb t.nvars 64 h))
-
-    module _ (vars : t.nvars ≤ 64) where
-      pub shape_row : (i : ℕ) → i < t.nvars → row_holds (var_at t i) ≡ false → false ≡ shape_holds t
-      unfolding shape_holds
-      shape_row i h e = sym (rw (le-leb t.ndims 32 dims, le-leb t.nvars 64 vars) (one-fails _ t.nvars i h e))
-
-      pub shape-all : ((i : ℕ) → i < t.nvars → row_holds (var_at t i) ≡ true) → true ≡ shape_holds t
-      unfolding shape_holds
-      shape-all h = sym (rw (le-leb t.ndims 32 dims, le-leb t.nvars 64 vars) (all_hold _ t.nvars h))
+  shape-is dims vars = rw (le-leb t.ndims 32 dims, le-leb t.nvars 64 vars)
 
   shape-parts : shape_holds t ≡ true → (t.ndims ≤ 32) × (t.nvars ≤ 64) × (all_below t.nvars (λ i. row_holds (var_at t i)) ≡ true)
   unfolding shape_holds
@@ -114,6 +89,21 @@ module _ (t : Tables) where
         let p = chunk_in t h.sizes i inside in
         let w = le-mul_of_pos_right (chunk t.dims (var_at t i)) (size-pos (var_at t i).code (h.shape.rows i inside).low (h.shape.rows i inside).high) in
         omega arith
+
+-- the answers of the function that finds a variable
+module _ (t : Tables) (i : ℕ) where
+  pub sought-tables : tables_hold t ≡ false → stop 23 0 ≡ sought t i
+  unfolding sought
+  sought-tables e = by-false _ e refl
+
+  module _ (hold : tables_hold t ≡ true) where
+    pub sought-none : t.nvars ≤ i → stop 16 0 ≡ sought t i
+    unfolding sought
+    sought-none h = by-true _ hold (by-false _ (le-ltb i t.nvars h) refl)
+
+    pub sought-got : {v : Spread} → i < t.nvars → v ≡ spread t (var_at t i) → got v 0 ≡ sought t i
+    unfolding sought
+    sought-got h e = by-true _ hold (by-true _ (lt-ltb i t.nvars h) (ap (λ (v : Spread). got v 0) e))
 
 -- the variable of a typed read is the one that is sought, and has the type
 pub typed-came : (code : ℕ) (t : Tables) (i : ℕ) {v : Spread} {m : ℕ} → got v m ≡ sought_as code t i → {Q : Type 0} → ((n : ℕ) → got v n ≡ sought t i → v.code ≡ code → Q) → Q
