@@ -63,4 +63,3 @@ module _ (absent k tag room : ℕ) (s : List ℕ) (size at : ℕ) where
       taken true true g = let z : n ≡ 0 = cc in omega arith
       taken true false g = let z : ◌≡◌ {A = ℕ} 0 1 = cc in omega arith
       taken false c g = nelems-within k s size (at + 4) room (test-came {t = begins (tag_bytes tag) s at} {x = nelems room k s size (at + 4)} 9 at g).1
-

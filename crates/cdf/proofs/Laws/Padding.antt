@@ -37,4 +37,3 @@ module _ (n : ℕ) (s : List ℕ) (size at : ℕ) {k : ℕ} (is : k ≡ padding 
   pub padding-got : at + k ≤ length s → true ≡ zeros k s at → got tt (at + k) ≡ zero_padding n s size at
   unfolding zero_padding
   padding-got h z = rw is (by-true _ (le-leb _ _ (rw is at h)) (by-true _ (rw is at (sym z)) refl))
-

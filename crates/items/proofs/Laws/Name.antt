@@ -27,4 +27,3 @@ module _ (k : ℕ) (s : List ℕ) (size at : ℕ) where
   module _ {n p e : ℕ} (counted : got n p ≡ nelems longest_name k s size at) (read : got tt e ≡ name_bytes n s size p) where
     pub name-got : {q : ℕ} → got tt q ≡ zero_padding n s size e → got n q ≡ name k s size at
     name-got f = by-got _ _ counted (by-got _ _ read (by-got _ _ f refl)) ∙ name-parts
-

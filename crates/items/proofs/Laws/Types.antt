@@ -54,4 +54,3 @@ module _ (codes : ℕ) (s : List ℕ) (size at : ℕ) where
       let h = leb-true v codes b.1 in
       let same = got_same g.1 in
       (omega arith, omega arith))
-

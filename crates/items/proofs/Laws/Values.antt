@@ -13,4 +13,3 @@ module _ (count width : ℕ) (s : List ℕ) (size at : ℕ) where
   pub values-then : {x : Step Unit} → at + count * width ≤ length s → x ≡ zero_padding (count * width) s size (at + count * width) → x ≡ values count width s size at
   unfolding values
   values-then h e = by-true _ (le-leb _ _ h) e
-
