@@ -1,4 +1,6 @@
 // Data types: their codes and the sizes of their elements.
+#![tactic(auto, unfolding(cdf::specs::Step::bind, cdf::specs::Step::test, crate::specs::Types::data_type))]
+
 ghost use Rattle.std.specs.Prelude.{◌≡◌, ◌≤◌};
 ghost use Rattle.cdf.specs.Inner.Answers.{Reads};
 ghost use Rattle.items.specs.Types.{size_of, data_type};
@@ -118,7 +120,6 @@ impl TryFrom<u64> for DataType {
 }
 
 // The type that a word is the code of.
-#[tactic(auto, unfolding(cdf::specs::Step::bind, cdf::specs::Step::test, crate::specs::Types::data_type))]
 pub fn parse_data_type(place: Place) -> Step<DataType>
     ensures { Reads code_of place.entry (data_type 6) result }
 {
