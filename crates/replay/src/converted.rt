@@ -1,5 +1,5 @@
 // Files in another version.
-use crate::output::show_u8;
+use crate::output::show_filled;
 use crate::text::{least, show_number};
 use convert::convert::{Converted, narrow, widen};
 
@@ -15,7 +15,7 @@ fn convert_into(to_two: bool, prefix: &[u8], size: u64, out: &mut [u8]) {
     show_number(c.place as u64);
     show_number(c.length);
     show_number(c.size);
-    show_u8(c.number, out);
+    show_filled(c.number, out);
 }
 
 // The place, the new header's length, the new size, the answer's number, and every byte of an output of `room` bytes, those that stay too.

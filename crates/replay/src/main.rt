@@ -36,6 +36,7 @@ mod converted;
 mod element;
 mod names;
 mod output;
+mod print;
 mod shown;
 mod tables;
 mod text;

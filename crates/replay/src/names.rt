@@ -1,12 +1,12 @@
 // A variable's name by its number, and its number by a name that stands in the file.
-use crate::output::show_u8;
+use crate::output::show_filled;
 use crate::text::{show_last, wide};
 use grammar::tables::Tables;
 use lookup::names::{Found, find_var, var_name, var_name_answer};
 
 // The answer's number, then the bytes of the name of the variable `i`.
 pub fn show_name(t: Tables, s: &[u8], i: usize) {
-    show_u8(var_name_answer(s, t, i), var_name(s, t, i));
+    show_filled(var_name_answer(s, t, i), var_name(s, t, i));
 }
 
 // The bytes from `from` to `to`, or the empty part where they do not lie inside.

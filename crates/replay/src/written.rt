@@ -1,5 +1,5 @@
 // Headers that are written from the tables.
-use crate::output::show_u8;
+use crate::output::show_filled;
 use crate::text::{least, show_number};
 use grammar::tables::Tables;
 use writer::header::write_header;
@@ -7,7 +7,7 @@ use writer::header::write_header;
 fn write_into(t: Tables, text: &[u8], out: &mut [u8]) {
     let w = write_header(t, text, out);
     show_number(w.length);
-    show_u8(w.number, out);
+    show_filled(w.number, out);
 }
 
 // The header's length, the answer's number, and every byte of an output of `room` bytes, those that the writer leaves too.

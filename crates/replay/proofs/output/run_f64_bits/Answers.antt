@@ -1,5 +1,0 @@
-use Rattle.std.proofs.Common.{sym, arith, length-take-le}
-use Rattle.replay.proofs.output.run_f64_bits.Goals as goal
-
-pub slice_bounds-read_f64_bits-end : goal.slice_bounds-read_f64_bits-end
-slice_bounds-read_f64_bits-end c = sym (length-take-le _ _ (omega arith))

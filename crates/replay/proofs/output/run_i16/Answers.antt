@@ -1,5 +1,0 @@
-use Rattle.std.proofs.Common.{sym, arith, length-take-le}
-use Rattle.replay.proofs.output.run_i16.Goals as goal
-
-pub slice_bounds-read_i16-end : goal.slice_bounds-read_i16-end
-slice_bounds-read_i16-end c = sym (length-take-le _ _ (omega arith))
