@@ -51,7 +51,8 @@ pub struct Var {
 }
 
 // `word` is the count word as read, `count` the record count, `size` the file's size. The first
-// `globals` attributes are the global ones.
+// `globals` attributes are the global ones. Arrays with a count beside each, not vectors: a rule of the
+// project (no heap), and the definitions of specs/ and the numbers that cross to C name these fields.
 #[derive(Clone, Copy)]
 pub struct Tables {
     pub version: u8,
