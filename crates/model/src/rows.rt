@@ -1,7 +1,17 @@
 // The rows of tables that are in use.
 ghost use Rattle.std.specs.Prelude.{◌≡◌, ◌≤◌, length, take};
 
-use grammar::tables::{Tables, Var};
+use grammar::tables::{Dim, Tables, Var};
+
+// The rows of the dimensions.
+pub fn dims(t: &Tables) -> &[Dim]
+    requires { t.now.ndims ≤ 32 }
+    ensures rows { result.now ≡ take t.now.ndims t.now.dims }
+    ensures number { length result.now ≡ t.now.ndims }
+{
+    let (dims, _) = t.dims.split_at(t.ndims);
+    dims
+}
 
 // The rows of the variables.
 pub fn vars(t: &Tables) -> &[Var]

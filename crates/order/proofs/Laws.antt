@@ -10,3 +10,4 @@ pub mod Lengths
 pub mod Tested
 pub mod Said
 pub mod Read
+pub mod Listed

@@ -9,36 +9,22 @@ use grammar::tables::{Attr, MAX_RANK, Var};
 pub(crate) fn is_inside(text: &[u8], at: usize, n: usize) -> bool
     ensures { result ≡ span_inside text.now at n }
 {
-    let have = text.len();
-    if have < at {
-        return false;
-    }
-    n <= have - at
+    at <= text.len() && n <= text.len() - at
 }
 
 // Whether an attribute's name and values lie inside the text.
-pub(crate) fn attr_inside(text: &[u8], a: Attr) -> bool
-    ensures { result ≡ attr_row_inside text.now a }
+pub(crate) fn attr_inside(text: &[u8], a: &Attr) -> bool
+    ensures { result ≡ attr_row_inside text.now a.now }
 {
-    if !is_inside(text, a.name, a.chars as usize) {
-        return false;
-    }
     let bytes = a.count as u64 * width(a.code as u64);
-    is_inside(text, a.values, bytes as usize)
+    is_inside(text, a.name, a.chars as usize) && is_inside(text, a.values, bytes as usize)
 }
 
 // Whether a variable's name lies inside the text, its ids inside its row and its attributes among `n` rows.
-pub(crate) fn var_inside(text: &[u8], v: Var, n: usize) -> bool
-    ensures { result ≡ var_row_inside text.now n v }
+pub(crate) fn var_inside(text: &[u8], v: &Var, n: usize) -> bool
+    ensures { result ≡ var_row_inside text.now n v.now }
 {
-    if !is_inside(text, v.name, v.chars as usize) {
-        return false;
-    }
-    let rank = v.rank as usize;
-    if MAX_RANK < rank {
-        return false;
-    }
-    let first = v.first as usize;
-    let attrs = v.attrs as usize;
-    first + attrs <= n
+    is_inside(text, v.name, v.chars as usize)
+        && v.rank as usize <= MAX_RANK
+        && v.first as usize + v.attrs as usize <= n
 }

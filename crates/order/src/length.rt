@@ -12,14 +12,10 @@ use items::types::DataType;
 pub(crate) fn width(code: u64) -> u64
     ensures { (result ≡ size_of code) × (result ≤ 8) }
 {
-    if code < 1 {
-        return 0;
+    match DataType::try_from(code) {
+        Ok(kind) => kind.size_of(),
+        Err(_) => 0,
     }
-    if 6 < code {
-        return 0;
-    }
-    let kind = DataType::of_code(code);
-    kind.size_of()
 }
 
 // The bytes of a name of `chars` bytes.

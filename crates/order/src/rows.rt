@@ -1,124 +1,99 @@
-// All the rows of tables, tested, and the bytes of a header that they make: in one pass, since tables go by value and each pass copies rows.
-ghost use Rattle.std.specs.Prelude.{◌≡◌, true, false, ◌≤◌};
+// All the rows of tables, tested, and the bytes of a header that they make: both in one pass.
+ghost use Rattle.std.specs.Prelude.{◌≡◌, true, cond, ◌≤◌, ◌*◌, ℕ, ◌<◌, ◌+◌, length, IfSome, get_or};
 ghost use Rattle.cdf.specs.Below.{all_below};
+ghost use Rattle.grammar.specs.Tables.{no_attr};
 ghost use Rattle.order.specs.Writable.{attr_inside};
 ghost use Rattle.order.specs.Inner.Lengths.{attrs_length, dims_length, vars_length};
-ghost use Rattle.order.specs.Inner.Tests.{dim_rows_tested, attr_rows_tested, var_rows_tested};
+ghost use Rattle.order.specs.Inner.Tests.{attrs_tested, attributes_tested, dim_rows_tested, attr_rows_tested, var_rows_tested};
 
 use crate::inside::{attr_inside, is_inside, var_inside};
 use crate::length::{attr_len, name_len, var_len};
 use crate::words::{attr_holds, dim_holds, var_holds};
-use grammar::tables::{MAX_ATTRS, Tables};
+use grammar::tables::{Attr, MAX_ATTRS, Tables};
+use model::rows::{dims, vars};
 
-// Whether rows hold, and if so the bytes that they make.
-#[derive(Clone, Copy)]
-pub(crate) struct Rows {
-    pub hold: bool,
-    pub length: u64,
-}
-
-fn broken() -> Rows
-    ensures { result.hold ≡ false }
+// The bytes of the dimensions.
+pub(crate) fn test_dims(text: &[u8], t: &Tables) -> Option<u64>
+    requires { t.now.ndims ≤ 32 }
+    ensures tested { result ≡ cond (dim_rows_tested text.now t.now) (Some (dims_length t.now)) None }
+    ensures bound { IfSome result (λ n. n ≤ 1099511627776) }
 {
-    Rows {
-        hold: false,
-        length: 0,
-    }
-}
-
-// The dimensions.
-pub(crate) fn test_dims(text: &[u8], t: Tables) -> Rows
-    requires { t.ndims ≤ 32 }
-    ensures { (result.hold ≡ dim_rows_tested text.now t) × (result.hold ≡ true → (result.length ≡ dims_length t) × (result.length ≤ 1099511627776)) }
-{
-    let rows = t.dims;
     let mut sum = 0;
-    let mut i = 0;
-    while i < t.ndims {
-        let d = rows[i];
+    for d in dims(t) {
         if !is_inside(text, d.name, d.chars as usize) {
-            return broken();
+            return None;
         }
         if !dim_holds(text, d) {
-            return broken();
+            return None;
         }
         sum += name_len(d.chars as u64) + 4;
-        i += 1;
     }
-    Rows {
-        hold: true,
-        length: sum,
-    }
+    Some(sum)
 }
 
-// The global attributes; of the others, that they lie inside the text.
-pub(crate) fn test_attrs(text: &[u8], t: Tables) -> Rows
-    requires { (t.globals ≤ t.nattrs) × (t.nattrs ≤ 128) }
-    ensures { (result.hold ≡ attr_rows_tested text.now t) × (result.hold ≡ true → (result.length ≡ attrs_length t.attrs 0 t.globals) × (result.length ≤ 8796093022208)) }
+// The bytes of attributes of one list, whose names lie inside the text.
+fn test_list(text: &[u8], rows: &[Attr]) -> Option<u64>
+    requires few { length rows.now ≤ 128 }
+    requires inside { (i : ℕ) → i < length rows.now → (get_or rows.now i no_attr).name + (get_or rows.now i no_attr).chars ≤ length text.now }
+    ensures tested { result ≡ cond (attrs_tested text.now rows.now 0 (length rows.now)) (Some (attrs_length rows.now 0 (length rows.now))) None }
+    ensures bound { IfSome result (λ n. n ≤ length rows.now * 68719476736) }
 {
-    let rows = t.attrs;
     let mut sum = 0;
-    let mut i = 0;
-    while i < t.globals {
-        let a = rows[i];
-        if !attr_inside(text, a) {
-            return broken();
-        }
+    for a in rows {
         if !attr_holds(text, a) {
-            return broken();
+            return None;
         }
-        sum += attr_len(a);
-        i += 1;
+        sum += attr_len(*a);
     }
-    while i < t.nattrs {
-        if !attr_inside(text, rows[i]) {
-            return broken();
-        }
-        i += 1;
-    }
-    Rows {
-        hold: true,
-        length: sum,
-    }
+    Some(sum)
 }
 
-// The variables, each with its attributes, and how many attributes there are over all lists.
-pub(crate) fn test_vars(text: &[u8], t: Tables) -> Rows
-    requires { (t.nvars ≤ 64) × (t.globals ≤ 128) × (t.nattrs ≤ 128) × (all_below t.nattrs (attr_inside text.now t) ≡ true) }
-    ensures { (result.hold ≡ var_rows_tested text.now t) × (result.hold ≡ true → (result.length ≡ vars_length t) × (result.length ≤ 1125899906842624)) }
+// The bytes of the global attributes; the others lie inside the text too.
+pub(crate) fn test_attrs(text: &[u8], t: &Tables) -> Option<u64>
+    requires { (t.now.globals ≤ t.now.nattrs) × (t.now.nattrs ≤ 128) }
+    ensures tested { result ≡ cond (attr_rows_tested text.now t.now) (Some (attrs_length t.now.attrs 0 t.now.globals)) None }
+    ensures bound { IfSome result (λ n. n ≤ 8796093022208) }
 {
-    let vars = t.vars;
-    let attrs = t.attrs;
-    let version = t.version;
-    let mut count = t.globals;
-    let mut sum = 0;
-    let mut i = 0;
-    while i < t.nvars {
-        let v = vars[i];
-        if !var_inside(text, v, t.nattrs) {
-            return broken();
+    for a in &t.attrs[..t.nattrs] {
+        if !attr_inside(text, a) {
+            return None;
         }
-        if !var_holds(text, v, version) {
-            return broken();
+    }
+    test_list(text, &t.attrs[..t.globals])
+}
+
+// Whether the attributes over all lists are within the capacity.
+fn attributes_hold(t: &Tables) -> bool
+    requires { (t.now.nvars ≤ 64) × (t.now.globals ≤ 128) }
+    ensures { result ≡ attributes_tested t.now }
+{
+    let mut count = t.globals;
+    for v in vars(t) {
+        count += v.attrs as usize;
+    }
+    count <= MAX_ATTRS
+}
+
+// The bytes of the variables, each with its attributes; the attributes lie inside the text.
+pub(crate) fn test_vars(text: &[u8], t: &Tables) -> Option<u64>
+    requires { (t.now.nvars ≤ 64) × (t.now.globals ≤ 128) × (t.now.nattrs ≤ 128) × (all_below t.now.nattrs (attr_inside text.now t.now) ≡ true) }
+    ensures tested { result ≡ cond (var_rows_tested text.now t.now) (Some (vars_length t.now)) None }
+    ensures bound { IfSome result (λ n. n ≤ 1125899906842624) }
+{
+    let mut sum = 0;
+    for v in vars(t) {
+        if !var_inside(text, v, t.nattrs) {
+            return None;
+        }
+        if !var_holds(text, v, t.version) {
+            return None;
         }
         let first = v.first as usize;
-        let n = v.attrs as usize;
-        let mut own = 0;
-        let mut k = 0;
-        while k < n {
-            let a = attrs[first + k];
-            if !attr_holds(text, a) {
-                return broken();
-            }
-            own += attr_len(a);
-            k += 1;
-        }
-        count += n;
-        sum += var_len(version, v) + own;
-        i += 1;
+        let own = test_list(text, &t.attrs[first..first + v.attrs as usize])?;
+        sum += var_len(t.version, *v) + own;
     }
-    Rows {
-        hold: count <= MAX_ATTRS,
-        length: sum,
+    if !attributes_hold(t) {
+        return None;
     }
+    Some(sum)
 }

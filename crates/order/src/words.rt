@@ -1,4 +1,6 @@
 // Whether the names, words and types of a row are in range, where it lies inside the text.
+#![tactic(auto, unfolding(cdf::specs::Magic::admits, crate::specs::Inner::Tests::dim_tested, crate::specs::Inner::Tests::attr_tested, crate::specs::Inner::Tests::var_tested))]
+
 ghost use Rattle.std.specs.Prelude.{◌≡◌, ◌+◌, ◌≤◌, length};
 ghost use Rattle.bigendian.specs.Number.{half};
 ghost use Rattle.cdf.specs.Form.{form};
@@ -7,6 +9,7 @@ ghost use Rattle.order.specs.Inner.Tests.{open_tested, code_tested, name_tested,
 
 use cdf::word::INDETERMINATE;
 use grammar::tables::{Attr, Dim, Var};
+use items::types::DataType;
 use items::utf8::is_utf8;
 
 // The largest number of bytes of a name.
@@ -23,41 +26,28 @@ fn name_holds(text: &[u8], at: usize, chars: usize) -> bool
     requires { at + chars ≤ length text.now }
     ensures { result ≡ name_tested text.now at chars }
 {
-    if MAX_NAME < chars {
-        return false;
-    }
-    let end = at + chars;
-    is_utf8(&text[at..end])
+    chars <= MAX_NAME && is_utf8(&text[at..at + chars])
 }
 
 // Whether a number is a word, or indeterminate.
 pub(crate) fn open_holds(n: u64) -> bool
     ensures { result ≡ open_tested n }
 {
-    if n < WORD_END {
-        return true;
-    }
-    n == INDETERMINATE
+    n < WORD_END || n == INDETERMINATE
 }
 
 // Whether a type has the code.
 fn code_holds(code: u64) -> bool
     ensures { result ≡ code_tested code }
 {
-    if code < 1 {
-        return false;
-    }
-    code <= 6
+    DataType::try_from(code).is_ok()
 }
 
 // Whether there is the version.
 pub(crate) fn version_holds(version: u8) -> bool
     ensures { result ≡ admits both_versions version }
 {
-    if version == 1 {
-        return true;
-    }
-    version == 2
+    version == 1 || version == 2
 }
 
 // The first number that is no begin in the version.
@@ -68,45 +58,30 @@ pub fn begin_end(version: u8) -> u64
 }
 
 // Whether a dimension is in range.
-pub(crate) fn dim_holds(text: &[u8], d: Dim) -> bool
-    requires { d.name + d.chars ≤ length text.now }
-    ensures { result ≡ dim_tested text.now d }
+pub(crate) fn dim_holds(text: &[u8], d: &Dim) -> bool
+    requires { d.now.name + d.now.chars ≤ length text.now }
+    ensures { result ≡ dim_tested text.now d.now }
 {
-    if !name_holds(text, d.name, d.chars as usize) {
-        return false;
-    }
-    let length = d.length as u64;
-    length < WORD_END
+    name_holds(text, d.name, d.chars as usize) && (d.length as u64) < WORD_END
 }
 
 // Whether an attribute is in range.
-pub(crate) fn attr_holds(text: &[u8], a: Attr) -> bool
-    requires { a.name + a.chars ≤ length text.now }
-    ensures { result ≡ attr_tested text.now a }
+pub(crate) fn attr_holds(text: &[u8], a: &Attr) -> bool
+    requires { a.now.name + a.now.chars ≤ length text.now }
+    ensures { result ≡ attr_tested text.now a.now }
 {
-    if !name_holds(text, a.name, a.chars as usize) {
-        return false;
-    }
-    if !code_holds(a.code as u64) {
-        return false;
-    }
-    let count = a.count as u64;
-    count < WORD_END
+    name_holds(text, a.name, a.chars as usize)
+        && code_holds(a.code as u64)
+        && (a.count as u64) < WORD_END
 }
 
 // Whether a variable is in range, its ids and attributes aside.
-pub(crate) fn var_holds(text: &[u8], v: Var, version: u8) -> bool
-    requires { v.name + v.chars ≤ length text.now }
-    ensures { result ≡ var_tested text.now version v }
+pub(crate) fn var_holds(text: &[u8], v: &Var, version: u8) -> bool
+    requires { v.now.name + v.now.chars ≤ length text.now }
+    ensures { result ≡ var_tested text.now version v.now }
 {
-    if !name_holds(text, v.name, v.chars as usize) {
-        return false;
-    }
-    if !code_holds(v.code as u64) {
-        return false;
-    }
-    if !open_holds(v.vsize) {
-        return false;
-    }
-    v.begin < begin_end(version)
+    name_holds(text, v.name, v.chars as usize)
+        && code_holds(v.code as u64)
+        && open_holds(v.vsize)
+        && v.begin < begin_end(version)
 }

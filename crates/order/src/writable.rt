@@ -1,5 +1,5 @@
 // Whether tables can be written.
-ghost use Rattle.std.specs.Prelude.{◌≡◌, true, false};
+ghost use Rattle.std.specs.Prelude.{◌≡◌, cond};
 ghost use Rattle.order.specs.Writable.{writable};
 ghost use Rattle.order.specs.Inner.Tests.{counts_tested};
 ghost use Rattle.order.specs.Inner.Lengths.{header_length};
@@ -8,77 +8,42 @@ use crate::rows::{test_attrs, test_dims, test_vars};
 use crate::totals::{size_holds, sizes_hold};
 use crate::words::{open_holds, version_holds};
 use grammar::tables::{MAX_ATTRS, MAX_DIMS, MAX_VARS, Tables};
+use model::checked::Checked;
 use model::rules::model_holds;
-use sizes::records::measure;
 
 // Whether the counts are within the tables, and there are the version and the count word.
-fn counts_hold(t: Tables) -> bool
-    ensures { result ≡ counts_tested t }
+#[tactic(auto, unfolding(crate::specs::Inner::Tests::counts_tested))]
+fn counts_hold(t: &Tables) -> bool
+    ensures { result ≡ counts_tested t.now }
 {
-    if MAX_DIMS < t.ndims {
-        return false;
-    }
-    if MAX_VARS < t.nvars {
-        return false;
-    }
-    if MAX_ATTRS < t.nattrs {
-        return false;
-    }
-    if t.nattrs < t.globals {
-        return false;
-    }
-    if !version_holds(t.version) {
-        return false;
-    }
-    open_holds(t.word)
+    t.ndims <= MAX_DIMS
+        && t.nvars <= MAX_VARS
+        && t.nattrs <= MAX_ATTRS
+        && t.globals <= t.nattrs
+        && version_holds(t.version)
+        && open_holds(t.word)
 }
 
-// Whether tables can be written, and if so how long their header is.
-#[derive(Clone, Copy)]
-pub struct Verdict {
-    pub writable: bool,
-    pub length: u64,
-}
-
-fn refused() -> Verdict
-    ensures { result.writable ≡ false }
+// Rule 23 of the writer, for tables of the bytes `text`: the length of their header. The tables come by value: what
+// is written of them (`said`) hangs on the lengths of their arrays, which a proof knows of a value and not behind a `&`.
+pub fn judged(text: &[u8], t: Tables) -> Option<u64>
+    ensures { result ≡ cond (writable text.now t) (Some (header_length t)) None }
 {
-    Verdict {
-        writable: false,
-        length: 0,
+    if !counts_hold(&t) {
+        return None;
     }
-}
-
-// Rule 23 of the writer, for tables of the bytes `text`.
-pub fn judged(text: &[u8], t: Tables) -> Verdict
-    ensures { (result.writable ≡ writable text.now t) × (result.writable ≡ true → result.length ≡ header_length t) }
-{
-    if !counts_hold(t) {
-        return refused();
+    let dims = test_dims(text, &t)?;
+    let globals = test_attrs(text, &t)?;
+    let vars = test_vars(text, &t)?;
+    if !model_holds(text, &t) {
+        return None;
     }
-    let dims = test_dims(text, t);
-    if !dims.hold {
-        return refused();
+    if !sizes_hold(Checked { tables: &t }) {
+        return None;
     }
-    let globals = test_attrs(text, t);
-    if !globals.hold {
-        return refused();
+    let length = 8 + (8 + dims) + (8 + globals) + (8 + vars);
+    if !size_holds(&t, length) {
+        return None;
     }
-    let vars = test_vars(text, t);
-    if !vars.hold {
-        return refused();
-    }
-    if !model_holds(text, t) {
-        return refused();
-    }
-    let z = measure(t);
-    if !sizes_hold(t, z) {
-        return refused();
-    }
-    let length = 8 + (8 + dims.length) + (8 + globals.length) + (8 + vars.length);
-    let holds = size_holds(t, length);
-    Verdict {
-        writable: holds,
-        length,
-    }
+    Some(length)
 }

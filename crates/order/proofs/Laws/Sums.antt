@@ -5,22 +5,15 @@ use native.Mathlib.Numerals.{add-one}
 use native.Mathlib.Nat.{mul-le-mul_left, zero-add}
 use mathlib.Core.Path.{◌≡◌, refl, sym, ap, ◌∙◌}
 use mathlib.Core.List.{List}
-use lib.ListN.{get_or, get_or-eq_default}
+use lib.ListN.{get_or}
 use Rattle.cdf.specs.Padding.{padding}
-use Rattle.items.specs.Types.{sizes, size_of}
+use Rattle.items.specs.Types.{size_of}
 use Rattle.grammar.specs.Tables.{no_attr, dim_at, var_at}
 use Rattle.grammar.specs.declared.tables.Attr.{Attr}
 use Rattle.grammar.specs.declared.tables.Var.{Var}
 use Rattle.grammar.specs.declared.tables.Tables.{Tables}
 use Rattle.sizes.specs.Records.{total}
 use Rattle.order.specs.Inner.Lengths.{name_length, dim_length, attr_length, attrs_length, var_alone, var_length, dims_length, vars_length, header_length}
-
--- no type has the code 0, or one above 6
-pub size_none : (code : ℕ) → code < 1 → 0 ≡ size_of code
-size_none code h = let z : code ≡ 0 = omega arith in rw z
-
-pub size-over : (code : ℕ) → 6 < code → 0 ≡ size_of code
-size-over code h = sym (get_or-eq_default sizes 0 h)
 
 -- the bytes of the values of an attribute
 pub values-fit : (n w : ℕ) → n < 4294967296 → w ≤ 8 → n * w ≤ 34359738360

@@ -1,12 +1,12 @@
 -- Laws of the number of attributes, the record count and the ends, as the code tests them.
-use Prim.Native.Nat.{ℕ, ◌+◌, ◌≤◌, ◌<◌}
+use Prim.Native.Nat.{ℕ, ◌+◌}
 use native.Mathlib.Omega.{arith}
 use native.Mathlib.Numerals.{add-one}
 use native.Mathlib.Nat.{add-zero, add_assoc}
 use mathlib.Core.Path.{◌≡◌, sym, ap, ◌∙◌}
 use mathlib.Core.Bool.{Bool, true, false}
 use lib.Dec.{leb, eqb}
-use borrow.Author.Tests.{le-leb, lt-leb, eq-eqb, ne_eqb}
+use borrow.Author.Tests.{eq-eqb, ne_eqb}
 use Rattle.cdf.specs.Step.{Step, got, stop, test, number_of}
 use Rattle.grammar.specs.Tables.{var_at}
 use Rattle.grammar.specs.declared.tables.Tables.{Tables}
@@ -68,10 +68,3 @@ module _ (t : Tables) where
     pub sizes-same : {n : ℕ} {r : Bool} → got n 0 ≡ record_count t → n ≡ t.count → r ≡ ends_hold t t.count → r ≡ sizes_tested t
     unfolding sizes_tested count_tested
     sizes-same {n} e h f = passed hold (rw (← e) (passed (eq-eqb n t.count h) f))
-
--- a size, and a length that was computed
-pub size-short : {r n m : ℕ} → r ≡ n → m < r → leb n m ≡ false
-size-short {r} {n} {m} e h = lt-leb n m (omega arith)
-
-pub size-long : {r n m : ℕ} → r ≡ n → r ≤ m → leb n m ≡ true
-size-long {r} {n} {m} e h = le-leb n m (omega arith)

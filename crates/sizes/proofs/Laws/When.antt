@@ -24,3 +24,6 @@ module _ {A : Type 0} (b : Bool) (x : A) where
 
   pub none-when : b ≡ false → ◌≡◌ {A = Option A} None (cond b (Some x) None)
   none-when e = rw e
+
+pub when-same : {A : Type 0} {b c : Bool} {x y : A} → b ≡ c → x ≡ y → cond b (Some x) None ≡ cond c (Some y) None
+when-same e f = rw (e, f)

@@ -1,4 +1,4 @@
-use Prim.Native.Nat.{ℕ, ◌-◌, ◌*◌, ◌≤◌, ◌<◌}
+use Prim.Native.Nat.{ℕ, ◌*◌, ◌≤◌, ◌<◌}
 use mathlib.Core.Path.{◌≡◌}
 use mathlib.Core.Bool.{true}
 use Rattle.sizes.specs.Records.{total}
@@ -8,8 +8,11 @@ use Rattle.order.specs.Inner.Lengths.{dim_length}
 use Rattle.order.specs.Inner.Tests.{dim_tested}
 use Rattle.order.proofs.rows.test_dims.Given as goal
 
-abbrev pub invariant-loop-i : goal.invariant-loop-i
-invariant-loop-i l = (l.i ≤ l.t.ndims) × (l.t.ndims ≤ 32) × (l.sum ≤ l.i * 34359738368) × (l.sum ≡ total (λ j. dim_length (dim_at l.t j)) l.i) × ((k : ℕ) → k < l.i → dim_inside l.text l.t k ≡ true) × ((k : ℕ) → k < l.i → dim_tested l.text (dim_at l.t k) ≡ true)
-
-abbrev pub decreases-loop-i : goal.decreases-loop-i
-decreases-loop-i l = l.t.ndims - l.i
+abbrev pub invariant-loop-d : goal.invariant-loop-d
+invariant-loop-d l =
+    record {
+      bound : l.sum ≤ l.d-index * 34359738368;
+      sum : l.sum ≡ total (λ j. dim_length (dim_at l.t j)) l.d-index;
+      inside : (k : ℕ) → k < l.d-index → dim_inside l.text l.t k ≡ true;
+      tested : (k : ℕ) → k < l.d-index → dim_tested l.text (dim_at l.t k) ≡ true;
+    }

@@ -1,47 +1,90 @@
-use Prim.Native.Nat.{◌+◌}
-use mathlib.Core.Path.{refl, sym}
+use Prim.Native.Nat.{◌+◌, ◌-◌}
+use mathlib.Core.Path.{◌≡◌, sym, ◌∙◌}
 use native.Mathlib.Omega.{arith}
+use lib.ListN.{get_or}
 use borrow.Author.Count.{below_none, below_more}
-use Rattle.grammar.specs.Tables.{var_at}
-use Rattle.order.specs.Inner.Tests.{attrs_tested, vars_tested, var_rows_tested}
-use Rattle.order.proofs.Laws.Chain.{fails, holds, ended, passed, refused, row-fails, rows-hold}
+use Rattle.grammar.specs.Tables.{no_var, var_at}
+use Rattle.model.proofs.Laws.Rows.{row-of}
+use Rattle.sizes.proofs.Laws.When.{when-some, when-none, some-when, none-when}
+use Rattle.order.specs.Inner.Tests.{vars_tested, var_rows_tested}
+use Rattle.order.proofs.Laws.Chain.{fails, holds, ended, passed, later, row-fails, rows-hold}
 use Rattle.order.proofs.Laws.Inside.{attr-rows, var-row}
-use Rattle.order.proofs.Laws.Sums.{sum-none, sum_more, attrs-all, var-all, vars-all}
+use Rattle.order.proofs.Laws.Listed.{length-listed, listed-tested, listed-length, listed-inside}
+use Rattle.order.proofs.Laws.Sums.{sum-none, sum_more, var-all, vars-all}
 use Rattle.order.proofs.Laws.Tested.{var-fails}
-use Rattle.order.proofs.Laws.Totals.{upto-none, upto-more, upto_all}
-use borrow.Author.Rules.{rules}
 use Rattle.order.proofs.rows.test_vars.Goals as goal
 
-pub loop-i-init : goal.loop-i-init
-loop-i-init c = (omega arith, search rules, search rules, search rules, omega arith, refl, upto-none _, sum-none _, below_none _, below_none _)
+pub loop-v-init : goal.loop-v-init
+loop-v-init c = record { bound = omega arith; sum = sum-none _; inside = below_none _; tested = below_none _ }
 
-pub returns-then-not-var_inside : goal.returns-then-not-var_inside
+pub returns-then-not-var_inside-clause-tested : goal.returns-then-not-var_inside-clause-tested
 unfolding var_rows_tested
-returns-then-not-var_inside c = refused c.broken.ensures (ended _ (sym (row-fails _ _ c.loop-i-test.true (fails c.var_inside.ensures c.if-not-var_inside.true))))
+returns-then-not-var_inside-clause-tested c =
+    let t = c.args.t.now in
+    let vs = c.vars-v-items.ensures in
+    let at = row-of t.nvars t.vars _ no_var vs.rows vs.number c.loop-v-test.true in
+    none-when _ _ (sym (ended _ (sym (row-fails _ c.loop-v.v-index (omega (arith, vs.number)) (fails (rw at at c.var_inside.ensures) c.if-not-var_inside.true)))))
 
-pub var_holds-requires : goal.var_holds-requires
-var_holds-requires c = (var-row c.args.text.now c.args.t.nattrs (var_at c.args.t c.loop-i.i) (holds c.var_inside.ensures c.if-not-var_inside.false)).0
+pub returns-then-not-var_holds-clause-tested : goal.returns-then-not-var_holds-clause-tested
+returns-then-not-var_holds-clause-tested c =
+    let t = c.args.t.now in
+    let vs = c.vars-v-items.ensures in
+    let at = row-of t.nvars t.vars _ no_var vs.rows vs.number c.loop-v-test.true in
+    none-when _ _ (sym (var-fails _ t _ (omega (arith, vs.number)) (sym (ended _ (fails (rw at at c.var_holds.ensures) c.if-not-var_holds.true)))))
 
-pub returns-then-not-var_holds : goal.returns-then-not-var_holds
-returns-then-not-var_holds c = refused c.broken-then-not-var_holds.ensures (var-fails _ _ _ c.loop-i-test.true (sym (ended _ (fails c.var_holds.ensures c.if-not-var_holds.true))))
+pub test_list-requires-clause-inside : goal.test_list-requires-clause-inside
+test_list-requires-clause-inside c =
+    let s = c.args.text.now in
+    let t = c.args.t.now in
+    let v = get_or c.vars-v-items.result.now c.loop-v.v-index no_var in
+    let row = (var-row s t.nattrs v (holds c.var_inside.ensures c.if-not-var_inside.false)).2 in
+    listed-inside t.attrs v.first v.attrs (omega arith) (omega (arith, row, c.requires.2)) s row (attr-rows s t c.requires.3)
 
-pub loop-k-init : goal.loop-k-init
-loop-k-init c = (omega arith, (var-row c.args.text.now c.args.t.nattrs (var_at c.args.t c.loop-i.i) (holds c.var_inside.ensures c.if-not-var_inside.false)).2, c.requires.2, omega arith, sum-none _, below_none _)
+pub returns-in_err-own-clause-tested : goal.returns-in_err-own-clause-tested
+returns-in_err-own-clause-tested c =
+    let s = c.args.text.now in
+    let t = c.args.t.now in
+    let vs = c.vars-v-items.ensures in
+    let v = get_or c.vars-v-items.result.now c.loop-v.v-index no_var in
+    let at = row-of t.nvars t.vars _ no_var vs.rows vs.number c.loop-v-test.true in
+    let row = (var-row s t.nattrs v (holds c.var_inside.ensures c.if-not-var_inside.false)).2 in
+    let e = sym (listed-tested t.attrs v.first v.attrs (omega arith) (omega (arith, row, c.requires.2)) s) ∙ when-none _ _ (sym c.test_list.ensures.tested ∙ c.in_err-own.was) in
+    c.from_residual.ensures
+    ∙ none-when _ _ (sym (var-fails s t _ (omega (arith, vs.number)) (sym (passed (holds (rw at at c.var_holds.ensures) c.if-not-var_holds.false) (sym (rw at at e))))))
 
-pub attr_holds-requires : goal.attr_holds-requires
-attr_holds-requires c = let b = c.loop-k.invariant.1 in let l = c.loop-k-test.true in attr-rows c.args.text.now c.args.t c.requires.3 ((var_at c.args.t c.loop-i.i).first + c.loop-k.k) (omega arith)
+pub loop-v-preserved : goal.loop-v-preserved
+loop-v-preserved c =
+    let s = c.args.text.now in
+    let t = c.args.t.now in
+    let l = c.loop-v.invariant in
+    let vs = c.vars-v-items.ensures in
+    let v = get_or c.vars-v-items.result.now c.loop-v.v-index no_var in
+    let at = row-of t.nvars t.vars _ no_var vs.rows vs.number c.loop-v-test.true in
+    let row = (var-row s t.nattrs v (holds c.var_inside.ensures c.if-not-var_inside.false)).2 in
+    let own = when-some _ _ (sym c.test_list.ensures.tested ∙ c.in_ok-own.was) in
+    let tested = sym (listed-tested t.attrs v.first v.attrs (omega arith) (omega (arith, row, c.requires.2)) s) ∙ own.0 in
+    let bytes = own.1 ∙ listed-length t.attrs v.first v.attrs (omega arith) (omega (arith, row, c.requires.2)) in
+    let same : v.first + v.attrs - v.first ≡ v.attrs = omega arith in
+    let many = length-listed t.attrs v.first v.attrs same (omega (arith, row, c.requires.2)) in
+    record {
+      bound = omega (arith, row, c.requires.2, c.in_ok-own.ensures.bound, many);
+      sum = sum_more _ _ l.sum (var-all t (var_at t c.loop-v.v-index) (rw at at c.var_len.ensures.0) (rw at at bytes));
+      inside = below_more _ _ l.inside (holds (rw at at c.var_inside.ensures) c.if-not-var_inside.false);
+      tested = below_more _ _ l.tested (sym (passed (holds (rw at at c.var_holds.ensures) c.if-not-var_holds.false) (sym (rw at at tested))));
+    }
 
-pub returns-then-not-attr_holds : goal.returns-then-not-attr_holds
-unfolding attrs_tested
-returns-then-not-attr_holds c = refused c.broken-then-not-attr_holds.ensures (var-fails _ _ _ c.loop-i-test.true (sym (passed (holds c.var_holds.ensures c.if-not-var_holds.false) (row-fails _ _ c.loop-k-test.true (fails c.attr_holds.ensures c.if-not-attr_holds.true)))))
+pub returns-then-not-attributes_hold-clause-tested : goal.returns-then-not-attributes_hold-clause-tested
+unfolding var_rows_tested
+returns-then-not-attributes_hold-clause-tested c =
+    none-when _ _ (sym (later _ (sym (later _ (fails c.attributes_hold.ensures c.if-not-attributes_hold.true)))))
 
-pub loop-k-preserved : goal.loop-k-preserved
-loop-k-preserved c = (omega arith, search rules, search rules, search rules, sum_more _ _ c.loop-k.invariant.4 c.attr_len-own.ensures.0, below_more _ _ c.loop-k.invariant.5 (holds c.attr_holds.ensures c.if-not-attr_holds.false))
-
-pub loop-i-preserved : goal.loop-i-preserved
-unfolding attrs_tested
-loop-i-preserved c = (omega arith, search rules, search rules, search rules, search rules, search rules, upto-more _ _ c.loop-i.invariant.6 refl, sum_more _ _ c.loop-i.invariant.7 (var-all _ _ c.var_len.ensures.0 (attrs-all _ _ (omega arith) c.loop-k.invariant.4)), below_more _ _ c.loop-i.invariant.8 (holds c.var_inside.ensures c.if-not-var_inside.false), below_more _ _ c.loop-i.invariant.9 (sym (passed (holds c.var_holds.ensures c.if-not-var_holds.false) (rows-hold _ c.loop-k-test.false c.loop-k.invariant.5))))
-
-pub returns : goal.returns
+pub returns-clause-tested : goal.returns-clause-tested
 unfolding var_rows_tested vars_tested
-returns c = (passed (sym (rows-hold _ c.loop-i-test.false c.loop-i.invariant.8)) (passed (sym (rows-hold _ c.loop-i-test.false c.loop-i.invariant.9)) (upto_all _ (omega arith) c.loop-i.invariant.6)), λ e. (vars-all _ (omega arith) c.loop-i.invariant.7, search rules))
+returns-clause-tested c =
+    let t = c.args.t.now in
+    let l = c.loop-v.invariant in
+    let vs = c.vars-v-items.ensures in
+    some-when _ _
+    (sym (passed (sym (rows-hold _ (omega (arith, vs.number)) l.inside))
+    (passed (sym (rows-hold _ (omega (arith, vs.number)) l.tested)) (sym (holds c.attributes_hold.ensures c.if-not-attributes_hold.false)))))
+    (vars-all t (omega (arith, vs.number)) l.sum)

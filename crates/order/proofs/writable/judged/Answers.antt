@@ -1,9 +1,9 @@
-use mathlib.Core.Path.{sym}
+use mathlib.Core.Path.{sym, ◌∙◌}
 use native.Mathlib.Omega.{arith}
-use borrow.Author.Tests.{not-true, not-false}
 use Rattle.grammar.proofs.Laws.Within.{within-shaped}
+use Rattle.sizes.proofs.Laws.When.{when-some, when-none, some-when, none-when}
 use Rattle.order.specs.Inner.Tests.{tested}
-use Rattle.order.proofs.Laws.Chain.{fails, holds, ended, passed, refused}
+use Rattle.order.proofs.Laws.Chain.{fails, holds, ended, passed}
 use Rattle.order.proofs.Laws.Rows.{full-rows}
 use Rattle.order.proofs.Laws.Said.{counts-see, attrs-see, rows-see, within, model-ids, writable-not, writable-by}
 use Rattle.order.proofs.Laws.Sums.{header-by}
@@ -11,67 +11,104 @@ use Rattle.order.proofs.writable.judged.Goals as goal
 
 pub returns-then-not-counts_hold : goal.returns-then-not-counts_hold
 unfolding tested
-returns-then-not-counts_hold c = refused c.refused.ensures (writable-not _ _ (full-rows _ _ c.well_formed.1.0) (sym (ended _ (fails c.counts_hold.ensures c.if-not-counts_hold.true))))
+returns-then-not-counts_hold c =
+    none-when _ _ (sym (writable-not _ _ (full-rows _ _ c.well_formed.1.0) (sym (ended _ (fails c.counts_hold.ensures c.if-not-counts_hold.true)))))
 
-pub test_dims-dims-requires : goal.test_dims-dims-requires
-test_dims-dims-requires c = (counts-see _ (holds c.counts_hold.ensures c.if-not-counts_hold.false)).0
+pub test_dims-requires : goal.test_dims-requires
+test_dims-requires c =
+    (counts-see _ (holds c.counts_hold.ensures c.if-not-counts_hold.false)).0
 
-pub returns-then-not-dims : goal.returns-then-not-dims
+pub returns-in_err-dims : goal.returns-in_err-dims
 unfolding tested
-returns-then-not-dims c = refused c.refused-then-not-dims.ensures (writable-not _ _ (full-rows _ _ c.well_formed.1.0) (sym (passed (holds c.counts_hold.ensures c.if-not-counts_hold.false) (ended _ (fails c.test_dims-dims.ensures.0 (not-true _ c.if-not-dims.true))))))
+returns-in_err-dims c =
+    let counts = holds c.counts_hold.ensures c.if-not-counts_hold.false in
+    c.from_residual.ensures ∙ none-when _ _ (sym (writable-not _ _ (full-rows _ _ c.well_formed.1.0) (sym (passed counts (ended _ (when-none _ _ (sym c.test_dims.ensures.tested ∙ c.in_err-dims.was)))))))
 
-pub test_attrs-globals-requires : goal.test_attrs-globals-requires
-test_attrs-globals-requires c = let k = counts-see _ (holds c.counts_hold.ensures c.if-not-counts_hold.false) in (k.3, k.2)
+pub test_attrs-requires : goal.test_attrs-requires
+test_attrs-requires c =
+    let k = counts-see _ (holds c.counts_hold.ensures c.if-not-counts_hold.false) in (k.3, k.2)
 
-pub returns-then-not-globals : goal.returns-then-not-globals
+pub returns-in_err-globals : goal.returns-in_err-globals
 unfolding tested
-returns-then-not-globals c = refused c.refused-then-not-globals.ensures (writable-not _ _ (full-rows _ _ c.well_formed.1.0) (sym (passed (holds c.counts_hold.ensures c.if-not-counts_hold.false) (passed (holds c.test_dims-dims.ensures.0 (not-false _ c.if-not-dims.false)) (ended _ (fails c.test_attrs-globals.ensures.0 (not-true _ c.if-not-globals.true)))))))
+returns-in_err-globals c =
+    let counts = holds c.counts_hold.ensures c.if-not-counts_hold.false in
+    let dims = when-some _ _ (sym c.test_dims.ensures.tested ∙ c.in_ok-dims.was) in
+    c.from_residual-in_err-globals.ensures ∙ none-when _ _ (sym (writable-not _ _ (full-rows _ _ c.well_formed.1.0) (sym (passed counts (passed dims.0 (ended _ (when-none _ _ (sym c.test_attrs.ensures.tested ∙ c.in_err-globals.was))))))))
 
-pub test_vars-vars-requires : goal.test_vars-vars-requires
-test_vars-vars-requires c = let k = counts-see _ (holds c.counts_hold.ensures c.if-not-counts_hold.false) in (k.1, omega (arith, k.2, k.3), k.2, attrs-see _ _ (holds c.test_attrs-globals.ensures.0 (not-false _ c.if-not-globals.false)))
+pub test_vars-requires : goal.test_vars-requires
+test_vars-requires c =
+    let globals = when-some _ _ (sym c.test_attrs.ensures.tested ∙ c.in_ok-globals.was) in
+    let k = counts-see _ (holds c.counts_hold.ensures c.if-not-counts_hold.false) in (k.1, omega (arith, k.2, k.3), k.2, attrs-see _ _ globals.0)
 
-pub returns-then-not-vars : goal.returns-then-not-vars
+pub returns-in_err-vars : goal.returns-in_err-vars
 unfolding tested
-returns-then-not-vars c = refused c.refused-then-not-vars.ensures (writable-not _ _ (full-rows _ _ c.well_formed.1.0) (sym (passed (holds c.counts_hold.ensures c.if-not-counts_hold.false) (passed (holds c.test_dims-dims.ensures.0 (not-false _ c.if-not-dims.false)) (passed (holds c.test_attrs-globals.ensures.0 (not-false _ c.if-not-globals.false)) (ended _ (fails c.test_vars-vars.ensures.0 (not-true _ c.if-not-vars.true))))))))
+returns-in_err-vars c =
+    let counts = holds c.counts_hold.ensures c.if-not-counts_hold.false in
+    let dims = when-some _ _ (sym c.test_dims.ensures.tested ∙ c.in_ok-dims.was) in
+    let globals = when-some _ _ (sym c.test_attrs.ensures.tested ∙ c.in_ok-globals.was) in
+    c.from_residual-in_err-vars.ensures ∙ none-when _ _ (sym (writable-not _ _ (full-rows _ _ c.well_formed.1.0) (sym (passed counts (passed dims.0 (passed globals.0 (ended _ (when-none _ _ (sym c.test_vars.ensures.tested ∙ c.in_err-vars.was)))))))))
 
 pub model_holds-requires : goal.model_holds-requires
-model_holds-requires c = within _ _ (rows-see c.args.text.now c.args.t (holds c.counts_hold.ensures c.if-not-counts_hold.false) (holds c.test_dims-dims.ensures.0 (not-false _ c.if-not-dims.false)) (holds c.test_attrs-globals.ensures.0 (not-false _ c.if-not-globals.false)) (holds c.test_vars-vars.ensures.0 (not-false _ c.if-not-vars.false)))
+model_holds-requires c =
+    let counts = holds c.counts_hold.ensures c.if-not-counts_hold.false in
+    let dims = when-some _ _ (sym c.test_dims.ensures.tested ∙ c.in_ok-dims.was) in
+    let globals = when-some _ _ (sym c.test_attrs.ensures.tested ∙ c.in_ok-globals.was) in
+    let vars = when-some _ _ (sym c.test_vars.ensures.tested ∙ c.in_ok-vars.was) in
+    within _ _ (rows-see c.args.text.now c.args.t counts dims.0 globals.0 vars.0)
 
 pub returns-then-not-model_holds : goal.returns-then-not-model_holds
 unfolding tested
-returns-then-not-model_holds c = refused c.refused-then-not-model_holds.ensures (writable-not _ _ (full-rows _ _ c.well_formed.1.0) (sym (passed (holds c.counts_hold.ensures c.if-not-counts_hold.false) (passed (holds c.test_dims-dims.ensures.0 (not-false _ c.if-not-dims.false)) (passed (holds c.test_attrs-globals.ensures.0 (not-false _ c.if-not-globals.false)) (passed (holds c.test_vars-vars.ensures.0 (not-false _ c.if-not-vars.false)) (ended _ (fails c.model_holds.ensures c.if-not-model_holds.true))))))))
+returns-then-not-model_holds c =
+    let counts = holds c.counts_hold.ensures c.if-not-counts_hold.false in
+    let dims = when-some _ _ (sym c.test_dims.ensures.tested ∙ c.in_ok-dims.was) in
+    let globals = when-some _ _ (sym c.test_attrs.ensures.tested ∙ c.in_ok-globals.was) in
+    let vars = when-some _ _ (sym c.test_vars.ensures.tested ∙ c.in_ok-vars.was) in
+    none-when _ _ (sym (writable-not _ _ (full-rows _ _ c.well_formed.1.0) (sym (passed counts (passed dims.0 (passed globals.0 (passed vars.0 (ended _ (fails c.model_holds.ensures c.if-not-model_holds.true)))))))))
 
-pub measure-z-requires : goal.measure-z-requires
-measure-z-requires c = (within-shaped (within _ _ (rows-see c.args.text.now c.args.t (holds c.counts_hold.ensures c.if-not-counts_hold.false) (holds c.test_dims-dims.ensures.0 (not-false _ c.if-not-dims.false)) (holds c.test_attrs-globals.ensures.0 (not-false _ c.if-not-globals.false)) (holds c.test_vars-vars.ensures.0 (not-false _ c.if-not-vars.false)))), model-ids c.args.text.now c.args.t (holds c.model_holds.ensures c.if-not-model_holds.false))
-
-pub sizes_hold-requires : goal.sizes_hold-requires
-sizes_hold-requires c = (within-shaped (within _ _ (rows-see c.args.text.now c.args.t (holds c.counts_hold.ensures c.if-not-counts_hold.false) (holds c.test_dims-dims.ensures.0 (not-false _ c.if-not-dims.false)) (holds c.test_attrs-globals.ensures.0 (not-false _ c.if-not-globals.false)) (holds c.test_vars-vars.ensures.0 (not-false _ c.if-not-vars.false)))), model-ids c.args.text.now c.args.t (holds c.model_holds.ensures c.if-not-model_holds.false), c.measure-z.ensures.0, c.measure-z.ensures.1)
+pub invariant_of-sizes_hold : goal.invariant_of-sizes_hold
+invariant_of-sizes_hold c =
+    let counts = holds c.counts_hold.ensures c.if-not-counts_hold.false in
+    let dims = when-some _ _ (sym c.test_dims.ensures.tested ∙ c.in_ok-dims.was) in
+    let globals = when-some _ _ (sym c.test_attrs.ensures.tested ∙ c.in_ok-globals.was) in
+    let vars = when-some _ _ (sym c.test_vars.ensures.tested ∙ c.in_ok-vars.was) in
+    let model = holds c.model_holds.ensures c.if-not-model_holds.false in
+    record { shaped = within-shaped (within _ _ (rows-see c.args.text.now c.args.t counts dims.0 globals.0 vars.0)); ids = model-ids c.args.text.now c.args.t model }
 
 pub returns-then-not-sizes_hold : goal.returns-then-not-sizes_hold
 unfolding tested
-returns-then-not-sizes_hold c = refused c.refused-then-not-sizes_hold.ensures (writable-not _ _ (full-rows _ _ c.well_formed.1.0) (sym (passed (holds c.counts_hold.ensures c.if-not-counts_hold.false) (passed (holds c.test_dims-dims.ensures.0 (not-false _ c.if-not-dims.false)) (passed (holds c.test_attrs-globals.ensures.0 (not-false _ c.if-not-globals.false)) (passed (holds c.test_vars-vars.ensures.0 (not-false _ c.if-not-vars.false)) (passed (holds c.model_holds.ensures c.if-not-model_holds.false) (sym (fails c.sizes_hold.ensures c.if-not-sizes_hold.true)))))))))
+returns-then-not-sizes_hold c =
+    let counts = holds c.counts_hold.ensures c.if-not-counts_hold.false in
+    let dims = when-some _ _ (sym c.test_dims.ensures.tested ∙ c.in_ok-dims.was) in
+    let globals = when-some _ _ (sym c.test_attrs.ensures.tested ∙ c.in_ok-globals.was) in
+    let vars = when-some _ _ (sym c.test_vars.ensures.tested ∙ c.in_ok-vars.was) in
+    let model = holds c.model_holds.ensures c.if-not-model_holds.false in
+    none-when _ _ (sym (writable-not _ _ (full-rows _ _ c.well_formed.1.0) (sym (passed counts (passed dims.0 (passed globals.0 (passed vars.0 (passed model (sym (fails c.sizes_hold.ensures c.if-not-sizes_hold.true))))))))))
 
-pub overflow_add-length : goal.overflow_add-length
-overflow_add-length c = let d = c.test_dims-dims.ensures.1 (not-false c.test_dims-dims.result.hold c.if-not-dims.false) in let g = c.test_attrs-globals.ensures.1 (not-false c.test_attrs-globals.result.hold c.if-not-globals.false) in let v = c.test_vars-vars.ensures.1 (not-false c.test_vars-vars.result.hold c.if-not-vars.false) in omega (arith, d.1, g.1, v.1)
+pub size_holds-requires : goal.size_holds-requires
+size_holds-requires c =
+    let dims = when-some _ _ (sym c.test_dims.ensures.tested ∙ c.in_ok-dims.was) in
+    let globals = when-some _ _ (sym c.test_attrs.ensures.tested ∙ c.in_ok-globals.was) in
+    let vars = when-some _ _ (sym c.test_vars.ensures.tested ∙ c.in_ok-vars.was) in
+    header-by c.args.t dims.1 globals.1 vars.1
 
-pub overflow_add-length-2 : goal.overflow_add-length-2
-overflow_add-length-2 c = let d = c.test_dims-dims.ensures.1 (not-false c.test_dims-dims.result.hold c.if-not-dims.false) in let g = c.test_attrs-globals.ensures.1 (not-false c.test_attrs-globals.result.hold c.if-not-globals.false) in let v = c.test_vars-vars.ensures.1 (not-false c.test_vars-vars.result.hold c.if-not-vars.false) in omega (arith, d.1, g.1, v.1)
-
-pub overflow_add-length-3 : goal.overflow_add-length-3
-overflow_add-length-3 c = let d = c.test_dims-dims.ensures.1 (not-false c.test_dims-dims.result.hold c.if-not-dims.false) in let g = c.test_attrs-globals.ensures.1 (not-false c.test_attrs-globals.result.hold c.if-not-globals.false) in let v = c.test_vars-vars.ensures.1 (not-false c.test_vars-vars.result.hold c.if-not-vars.false) in omega (arith, d.1, g.1, v.1)
-
-pub overflow_add-length-4 : goal.overflow_add-length-4
-overflow_add-length-4 c = let d = c.test_dims-dims.ensures.1 (not-false c.test_dims-dims.result.hold c.if-not-dims.false) in let g = c.test_attrs-globals.ensures.1 (not-false c.test_attrs-globals.result.hold c.if-not-globals.false) in let v = c.test_vars-vars.ensures.1 (not-false c.test_vars-vars.result.hold c.if-not-vars.false) in omega (arith, d.1, g.1, v.1)
-
-pub overflow_add-length-5 : goal.overflow_add-length-5
-overflow_add-length-5 c = let d = c.test_dims-dims.ensures.1 (not-false c.test_dims-dims.result.hold c.if-not-dims.false) in let g = c.test_attrs-globals.ensures.1 (not-false c.test_attrs-globals.result.hold c.if-not-globals.false) in let v = c.test_vars-vars.ensures.1 (not-false c.test_vars-vars.result.hold c.if-not-vars.false) in omega (arith, d.1, g.1, v.1)
-
-pub overflow_add-length-6 : goal.overflow_add-length-6
-overflow_add-length-6 c = let d = c.test_dims-dims.ensures.1 (not-false c.test_dims-dims.result.hold c.if-not-dims.false) in let g = c.test_attrs-globals.ensures.1 (not-false c.test_attrs-globals.result.hold c.if-not-globals.false) in let v = c.test_vars-vars.ensures.1 (not-false c.test_vars-vars.result.hold c.if-not-vars.false) in omega (arith, d.1, g.1, v.1)
-
-pub size_holds-holds-requires : goal.size_holds-holds-requires
-size_holds-holds-requires c = let d = c.test_dims-dims.ensures.1 (not-false c.test_dims-dims.result.hold c.if-not-dims.false) in let g = c.test_attrs-globals.ensures.1 (not-false c.test_attrs-globals.result.hold c.if-not-globals.false) in let v = c.test_vars-vars.ensures.1 (not-false c.test_vars-vars.result.hold c.if-not-vars.false) in header-by _ d.0 g.0 v.0
+pub returns-then-not-size_holds : goal.returns-then-not-size_holds
+unfolding tested
+returns-then-not-size_holds c =
+    let counts = holds c.counts_hold.ensures c.if-not-counts_hold.false in
+    let dims = when-some _ _ (sym c.test_dims.ensures.tested ∙ c.in_ok-dims.was) in
+    let globals = when-some _ _ (sym c.test_attrs.ensures.tested ∙ c.in_ok-globals.was) in
+    let vars = when-some _ _ (sym c.test_vars.ensures.tested ∙ c.in_ok-vars.was) in
+    let model = holds c.model_holds.ensures c.if-not-model_holds.false in
+    let sizes = holds c.sizes_hold.ensures c.if-not-sizes_hold.false in
+    none-when _ _ (sym (writable-by _ _ (full-rows _ _ c.well_formed.1.0) (sym (passed counts (passed dims.0 (passed globals.0 (passed vars.0 (passed model (sym sizes))))))) c.size_holds.ensures) ∙ c.if-not-size_holds.true)
 
 pub returns : goal.returns
 unfolding tested
-returns c = let d = c.test_dims-dims.ensures.1 (not-false c.test_dims-dims.result.hold c.if-not-dims.false) in let g = c.test_attrs-globals.ensures.1 (not-false c.test_attrs-globals.result.hold c.if-not-globals.false) in let v = c.test_vars-vars.ensures.1 (not-false c.test_vars-vars.result.hold c.if-not-vars.false) in (writable-by _ _ (full-rows _ _ c.well_formed.1.0) (sym (passed (holds c.counts_hold.ensures c.if-not-counts_hold.false) (passed (holds c.test_dims-dims.ensures.0 (not-false _ c.if-not-dims.false)) (passed (holds c.test_attrs-globals.ensures.0 (not-false _ c.if-not-globals.false)) (passed (holds c.test_vars-vars.ensures.0 (not-false _ c.if-not-vars.false)) (passed (holds c.model_holds.ensures c.if-not-model_holds.false) (sym (holds c.sizes_hold.ensures c.if-not-sizes_hold.false)))))))) c.size_holds-holds.ensures, λ e. header-by _ d.0 g.0 v.0)
+returns c =
+    let counts = holds c.counts_hold.ensures c.if-not-counts_hold.false in
+    let dims = when-some _ _ (sym c.test_dims.ensures.tested ∙ c.in_ok-dims.was) in
+    let globals = when-some _ _ (sym c.test_attrs.ensures.tested ∙ c.in_ok-globals.was) in
+    let vars = when-some _ _ (sym c.test_vars.ensures.tested ∙ c.in_ok-vars.was) in
+    let model = holds c.model_holds.ensures c.if-not-model_holds.false in
+    let sizes = holds c.sizes_hold.ensures c.if-not-sizes_hold.false in
+    some-when _ _ (sym (writable-by _ _ (full-rows _ _ c.well_formed.1.0) (sym (passed counts (passed dims.0 (passed globals.0 (passed vars.0 (passed model (sym sizes))))))) c.size_holds.ensures) ∙ c.if-not-size_holds.false) (header-by c.args.t dims.1 globals.1 vars.1)
