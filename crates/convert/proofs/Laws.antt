@@ -2,3 +2,4 @@
 pub mod Moved
 pub mod Read
 pub mod Convert
+pub mod Length

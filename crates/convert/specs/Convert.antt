@@ -1,10 +1,12 @@
 -- Widening and narrowing (01, Widening and narrowing): a file in another version. Its header is written in that version; what lies behind the header stays as it is and moves
 -- as one.
-use Rattle.std.specs.Prelude.{ℕ, ◌+◌, ◌-◌, ◌≡◌, Bool, List, ◌++◌, map, length, take, drop, ltb, leb}
+use Rattle.std.specs.Prelude.{ℕ, ◌+◌, ◌-◌, ◌≡◌, Bool, Result, Ok, Err, List, ◌++◌, map, length, take, drop, ltb, leb}
 use Rattle.bigendian.specs.Number.{half}
 use Rattle.cdf.specs.Below.{all_below}
 use Rattle.cdf.specs.Form.{form}
 use Rattle.cdf.specs.Magic.{both_versions}
+use Rattle.cdf.specs.Refusals.{number}
+use Rattle.cdf.specs.declared.refusal.Stop.{Stop}
 use Rattle.cdf.specs.Step.{Step, got, stop, need, into}
 use Rattle.grammar.specs.Tables.{var_at}
 use Rattle.grammar.specs.Meaning.{Contents}
@@ -13,10 +15,9 @@ use Rattle.grammar.specs.declared.tables.Tables.{Tables}
 use Rattle.rules.specs.Encode.{encode}
 use Rattle.order.specs.Writable.{to_write}
 use Rattle.sizes.specs.Records.{ends_hold, max_position}
-use Rattle.header.specs.Header.{read_header, after_header}
-use Rattle.header.specs.declared.reader.Header.{Header}
+use Rattle.header.specs.Header.{Header, read_header, after_header}
 use Rattle.writer.specs.Writes.{write_header}
-use Rattle.convert.specs.declared.convert.Converted.{Converted}
+use Rattle.convert.specs.declared.convert.Converted.{Converted as Made}
 
 -- where a position behind a header that ended at `old` lies behind one that ends at `new`: it "moves by new header length minus old". Asked only of positions from `old` on
 abbrev pub moved : ℕ → ℕ → ℕ → ℕ
@@ -93,7 +94,14 @@ module _ (version : ℕ) (s : List ℕ) (h : Header) where
 unfoldable pub convert : ℕ → List ℕ → ℕ → List ℕ → Step New
 convert version s size out = after_header (read_header s size both_versions) (λ h. converted version s h out)
 
--- what is answered: number and place, the new header's length and the new size, which "are 0 in any refusal"
+-- what is answered: number and place, the new header's length and the new size
+pub record Converted : Type 0 where
+  pub number : ℕ
+  pub place : ℕ
+  pub length : ℕ
+  pub size : ℕ
+
+-- length and size "are 0 in any refusal"
 abbrev pub answer_of : Step New → Converted
 answer_of (got x n) = record { number = 0; place = 0; length = n; size = x.size }
 answer_of (stop k p) = record { number = k; place = p; length = 0; size = 0 }
@@ -103,6 +111,11 @@ abbrev pub output_or : List ℕ → Step New → List ℕ
 output_or out (got x _) = x.output
 output_or out (stop _ _) = out
 
--- the contract of both: where y is to be answered and `out` stood in the output, r is the answer and the output is `new`
-abbrev pub Converts : List ℕ → Step New → Converted → List ℕ → Type 0
-Converts out y r new = (r ≡ answer_of y) × (new ≡ output_or out y)
+-- what the code's result tells
+abbrev pub converted_of : Result Made Stop → Converted
+converted_of (Ok x) = record { number = 0; place = 0; length = x.length; size = x.size }
+converted_of (Err k) = record { number = number k.why; place = k.place; length = 0; size = 0 }
+
+-- the contract of both: where y is to be answered and `out` stood in the output, r tells the answer and the output is `new`
+abbrev pub Converts : List ℕ → Step New → Result Made Stop → List ℕ → Type 0
+Converts out y r new = (converted_of r ≡ answer_of y) × (new ≡ output_or out y)

@@ -1,69 +1,60 @@
-// The length of a header as it is written, of tables that a header was read into.
-ghost use Rattle.std.specs.Prelude.{◌≡◌, ◌≤◌};
-ghost use Rattle.order.specs.Inner.Lengths.{attrs_length, dims_length, vars_length, header_length, CountsHold};
+// The length of a header as it is written in a version, of tables that a header was read into.
+ghost use Rattle.std.specs.Prelude.{◌≡◌, ℕ, ◌+◌, ◌≤◌, ◌<◌, length, get_or};
+ghost use Rattle.grammar.specs.Tables.{no_dim, no_var};
+ghost use Rattle.sizes.specs.Records.{total};
+ghost use Rattle.order.specs.Inner.Lengths.{dim_length, attrs_length, header_length, CountsHold};
+ghost use Rattle.convert.specs.Inner.Read.{var_length, versioned};
 
-use grammar::tables::Tables;
+use grammar::tables::{Attr, Dim, Tables, Var};
 use order::length::{attr_len, name_len, var_len};
 
-// The bytes of the dimensions.
-fn dims_len(t: Tables) -> u64
-    requires { t.ndims ≤ 32 }
-    ensures { (result ≡ dims_length t) × (result ≤ 1099511627776) }
+// The bytes of dimensions.
+fn dims_len(dims: &[Dim]) -> u64
+    requires { length dims.now ≤ 32 }
+    ensures { (result ≡ total (λ i. dim_length (get_or dims.now i no_dim)) (length dims.now)) × (result ≤ 1099511627776) }
 {
-    let rows = t.dims;
     let mut sum = 0;
-    let mut i = 0;
-    while i < t.ndims {
-        let d = rows[i];
+    for d in dims {
         sum += name_len(d.chars as u64) + 4;
-        i += 1;
     }
     sum
 }
 
-// The bytes of the global attributes.
-fn globals_len(t: Tables) -> u64
-    requires { t.globals ≤ 128 }
-    ensures { (result ≡ attrs_length t.attrs 0 t.globals) × (result ≤ 8796093022208) }
+// The bytes of attributes, those of a header or of a variable.
+fn attrs_len(attrs: &[Attr]) -> u64
+    requires { length attrs.now ≤ 128 }
+    ensures { (result ≡ attrs_length attrs.now 0 (length attrs.now)) × (result ≤ 8796093022208) }
 {
-    let rows = t.attrs;
     let mut sum = 0;
-    let mut i = 0;
-    while i < t.globals {
-        sum += attr_len(rows[i]);
-        i += 1;
+    for a in attrs {
+        sum += attr_len(*a);
     }
     sum
 }
 
-// The bytes of the variables. Their attributes are summed in place: a call would copy the rows for each variable.
-fn vars_len(t: Tables) -> u64
-    requires { CountsHold t }
-    ensures { (result ≡ vars_length t) × (result ≤ 1125899906842624) }
+// The bytes of variables, whose attributes stand among all of the tables.
+fn vars_len(vars: &[Var], attrs: &[Attr], version: u8) -> u64
+    requires few { length vars.now ≤ 64 }
+    requires room { length attrs.now ≤ 128 }
+    requires spans { (i : ℕ) → i < length vars.now → (get_or vars.now i no_var).first + (get_or vars.now i no_var).attrs ≤ length attrs.now }
+    ensures { (result ≡ total (λ i. var_length version attrs.now (get_or vars.now i no_var)) (length vars.now)) × (result ≤ 1125899906842624) }
 {
-    let version = t.version;
     let mut sum = 0;
-    let mut i = 0;
-    while i < t.nvars {
-        let v = t.vars[i];
+    for v in vars {
         let first = v.first as usize;
-        let n = v.attrs as usize;
-        let mut own = 0;
-        let mut k = 0;
-        while k < n {
-            own += attr_len(t.attrs[first + k]);
-            k += 1;
-        }
-        sum += var_len(version, v) + own;
-        i += 1;
+        let end = first + v.attrs as usize;
+        sum += var_len(version, *v) + attrs_len(&attrs[first..end]);
     }
     sum
 }
 
 // The bytes of the header.
-pub(crate) fn header_len(t: Tables) -> u64
-    requires { CountsHold t }
-    ensures { (result ≡ header_length t) × (result ≤ 2251799813685248) }
+pub(crate) fn header_len(t: &Tables, version: u8) -> u64
+    requires { CountsHold t.now }
+    ensures { (result ≡ header_length (versioned version t.now)) × (result ≤ 2251799813685248) }
 {
-    8 + (8 + dims_len(t)) + (8 + globals_len(t)) + (8 + vars_len(t))
+    let dims = dims_len(&t.dims[..t.ndims]);
+    let globals = attrs_len(&t.attrs[..t.globals]);
+    let vars = vars_len(&t.vars[..t.nvars], &t.attrs, version);
+    8 + (8 + dims) + (8 + globals) + (8 + vars)
 }

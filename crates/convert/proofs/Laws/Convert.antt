@@ -4,7 +4,7 @@ use native.Mathlib.Omega.{arith}
 use mathlib.Core.Path.{◌≡◌, refl, sym, ap, subst, ◌∙◌}
 use mathlib.Core.Bool.{Bool, true, false}
 use mathlib.Core.List.{List, ◌++◌}
-use lib.ListN.{length, drop}
+use lib.ListN.{length, take, drop}
 use lib.Dec.{ltb, leb}
 use borrow.Author.Tests.{lt-leb, le-leb}
 use Rattle.bigendian.specs.Number.{half}
@@ -13,20 +13,26 @@ use Rattle.cdf.specs.Form.{form}
 use Rattle.cdf.specs.Magic.{both_versions}
 use Rattle.cdf.specs.Step.{Step, got, stop, test, into}
 use Rattle.cdf.proofs.Laws.Step.{by-true, by-false}
-use Rattle.grammar.specs.Tables.{var_at}
+use Rattle.std.specs.Prelude.{Result, Ok, Err}
+use Rattle.std.specs.List.{list_all}
+use Rattle.cdf.specs.Refusals.{number}
+use Rattle.cdf.specs.declared.refusal.Refusal.{Refusal}
+use Rattle.cdf.specs.declared.refusal.Stop.{Stop}
+use Rattle.cdf.proofs.Laws.Refusals.{refused}
+use Rattle.grammar.specs.declared.tables.Var.{Var}
+use Rattle.grammar.specs.Tables.{no_var, var_at}
 use Rattle.grammar.specs.declared.tables.Tables.{Tables}
 use Rattle.rules.specs.Encode.{encode}
 use Rattle.sizes.specs.Records.{ends_hold, max_position}
 use Rattle.order.specs.Writable.{to_write, writable}
 use Rattle.order.specs.Inner.Lengths.{header_length}
-use Rattle.header.specs.Header.{read_header, after_header}
-use Rattle.header.specs.declared.reader.Header.{Header}
+use Rattle.header.specs.Header.{Header, refusal, read_header, after_header, header_of}
 use Rattle.header.proofs.Laws.Header.{after-refused, after_read}
 use Rattle.writer.specs.Writes.{write_header, Writes}
-use Rattle.writer.specs.declared.header.Written.{Written}
-use Rattle.convert.specs.Convert.{New, moved, moved_tables, new_tables, begins_behind, begins_fit, converted, convert, answer_of, output_or, Converts}
-use Rattle.convert.specs.Inner.Read.{Read, versioned}
-use Rattle.convert.specs.declared.convert.Converted.{Converted}
+use Rattle.convert.specs.Convert.{New, moved, moved_tables, new_tables, begins_behind, begins_fit, converted, convert, answer_of, output_or, converted_of, Converts}
+use Rattle.convert.specs.Inner.Read.{Read, stopped, versioned}
+use Rattle.convert.specs.declared.convert.Converted.{Converted as Made}
+use Rattle.convert.proofs.Laws.Moved.{all-rows}
 use Rattle.convert.proofs.Laws.Read.{new-end-is}
 
 -- what the writer answers: a refusal, which has no place, or bytes
@@ -44,17 +50,17 @@ answered s t out = by (writable s t) (leb (length (encode (to_write s t))) (leng
     by true false = refuses 22 (λ z. omega arith)
     by false c = refuses 23 (λ z. omega arith)
 
-writer-refused : (out new : List ℕ) (w : Written) {y : Step (List ℕ)} → Answered y → Writes out y w new → (w.number ≡ 0 → ⊥) → (stop w.number 0 ≡ y) × (new ≡ out)
-writer-refused out new w (refuses k n) p z = (ap (λ (i : ℕ). stop i 0) p.0.0, p.0.1)
-writer-refused out new w (gives o n) p z = absurd (z p.0.0)
+writer-refused : (out new : List ℕ) (k : Refusal) {y : Step (List ℕ)} → Answered y → Writes out y (Err k) new → (stop (number k) 0 ≡ y) × (new ≡ out)
+writer-refused out new k (refuses i n) p = (ap (λ (j : ℕ). stop j 0) p.0.0, p.0.1)
+writer-refused out new k (gives o n) p = absurd (refused k p.0.0)
 
-writer-gave : (out new : List ℕ) (w : Written) {y : Step (List ℕ)} → Answered y → Writes out y w new → w.number ≡ 0 → got new w.length ≡ y
-writer-gave out new w (refuses k n) p z = absurd (n (sym p.0.0 ∙ z))
-writer-gave out new w (gives o n) p z = λ i. got (p.0.1 i) (p.1 i)
+writer-gave : (out new : List ℕ) (n : ℕ) {y : Step (List ℕ)} → Answered y → Writes out y (Ok n) new → got new n ≡ y
+writer-gave out new n (refuses i z) p = absurd (z (sym p.0.0))
+writer-gave out new n (gives o m) p = λ i. got (p.0.1 i) (p.1 i)
 
 module _ (version : ℕ) (s : List ℕ) (h : Header) (out : List ℕ) where
-  pub stops-with : {k p : ℕ} {r : Converted} → stop k p ≡ converted version s h out → r ≡ answer_of (stop k p) → Converts out (converted version s h out) r out
-  stops-with f e = (e ∙ ap answer_of f, ap (output_or out) f)
+  pub stops-with : (k : Refusal) → stop (number k) 0 ≡ converted version s h out → Converts out (converted version s h out) (stopped (Err k)) out
+  stops-with k f = (ap answer_of f, ap (output_or out) f)
 
   pub by-24 : begins_behind version s h ≡ false → stop 24 0 ≡ converted version s h out
   unfolding converted
@@ -80,20 +86,24 @@ module _ (version : ℕ) (s : List ℕ) (h : Header) (out : List ℕ) where
           unfolding converted
           by-writer = by-true _ a (by-true _ b (by-true _ (le-leb _ _ l) (by-true _ d refl)))
 
-          module _ {w : Written} {new : List ℕ} (k : Writes out (write_header s (new_tables version s h) out) w new) where
-            pub refused-last : {r : Converted} → (w.number ≡ 0 → ⊥) → r ≡ answer_of (stop w.number 0) → Converts out (converted version s h out) r new
-            unfolding into
-            refused-last z e =
-                let q = writer-refused out new w (answered s (new_tables version s h) out) k z in
-                let f : stop w.number 0 ≡ converted version s h out = ap (into (λ o. record { output = o; size = (new_tables version s h).size })) q.0 ∙ by-writer in
-                (e ∙ ap answer_of f, q.1 ∙ ap (output_or out) f)
+          pub refused-last : {k : Refusal} {w : Result ℕ Refusal} {r : Result Made Refusal} {new : List ℕ} → Writes out (write_header s (new_tables version s h) out) w new → w ≡ Err k → r ≡ Err k → Converts out (converted version s h out) (stopped r) new
+          unfolding into
+          refused-last {k} {new = new} a e d' =
+              let q = writer-refused out new k (answered s (new_tables version s h) out) (subst (λ (w : Result ℕ Refusal). Writes out (write_header s (new_tables version s h) out) w new) e a) in
+              let f : stop (number k) 0 ≡ converted version s h out = ap (into (λ o. record { output = o; size = (new_tables version s h).size })) q.0 ∙ by-writer in
+              (ap (λ (r : Result Made Refusal). converted_of (stopped r)) d' ∙ ap answer_of f, q.1 ∙ ap (output_or out) f)
 
-            pub given-last : {m : ℕ} → w.number ≡ 0 → m ≡ (new_tables version s h).size → Converts out (converted version s h out) (record { number = 0; place = 0; length = w.length; size = m }) new
-            unfolding into
-            given-last z e =
-                let q = writer-gave out new w (answered s (new_tables version s h) out) k z in
-                let f : got (record { output = new; size = (new_tables version s h).size }) w.length ≡ converted version s h out = ap (into (λ o. record { output = o; size = (new_tables version s h).size })) q ∙ by-writer in
-                ((λ i. record { number = 0; place = 0; length = w.length; size = e i }) ∙ ap answer_of f, ap (output_or out) f)
+          pub given-last : {n m : ℕ} {w : Result ℕ Refusal} {new : List ℕ} → Writes out (write_header s (new_tables version s h) out) w new → w ≡ Ok n → m ≡ (new_tables version s h).size
+              → Converts out (converted version s h out) (stopped (Ok (record { length = n; size = m }))) new
+          unfolding into
+          given-last {n} {new = new} a z e =
+              let q = writer-gave out new n (answered s (new_tables version s h) out) (subst (λ (w : Result ℕ Refusal). Writes out (write_header s (new_tables version s h) out) w new) z a) in
+              let f : got (record { output = new; size = (new_tables version s h).size }) n ≡ converted version s h out = ap (into (λ o. record { output = o; size = (new_tables version s h).size })) q ∙ by-writer in
+              ((λ i. record { number = 0; place = 0; length = n; size = e i }) ∙ ap answer_of f, ap (output_or out) f)
+
+-- where no begin lies below the end of the header, seen in the rows
+pub behind-is : (version : ℕ) (s : List ℕ) (h : Header) → h.tables.nvars ≤ length h.tables.vars → {r : Bool} → r ≡ list_all (λ (v : Var). leb h.end v.begin) (take h.tables.nvars h.tables.vars) → r ≡ begins_behind version s h
+behind-is version s h l e = e ∙ all-rows (λ (v : Var). leb h.end v.begin) h.tables.vars no_var h.tables.nvars l
 
 -- the tables that the code makes are the new ones
 module _ (version : ℕ) (s : List ℕ) (h : Header) {u : Tables} where
@@ -101,10 +111,11 @@ module _ (version : ℕ) (s : List ℕ) (h : Header) {u : Tables} where
   made r e f = f ∙ ap (λ (n : ℕ). moved_tables version (moved h.end n) h.tables) (e ∙ new-end-is version s h r)
 
   module _ (is : u ≡ new_tables version s h) where
-    pub made-fit : {limit : ℕ} {r : Bool} → limit ≡ half (form version).begin_bytes → r ≡ all_below u.nvars (λ i. ltb (var_at u i).begin limit) → r ≡ begins_fit version s h
-    made-fit {limit} e f =
-        f ∙ ap (λ (x : Tables). all_below x.nvars (λ i. ltb (var_at x i).begin limit)) is
-        ∙ ap (λ (l : ℕ). all_below (new_tables version s h).nvars (λ i. ltb (var_at (new_tables version s h) i).begin l)) e
+    pub made-fit : u.nvars ≤ length u.vars → {limit : ℕ} {r : Bool} → limit ≡ half (form version).begin_bytes → r ≡ list_all (λ (v : Var). ltb v.begin limit) (take u.nvars u.vars) → r ≡ begins_fit version s h
+    made-fit l {limit} e f =
+        f ∙ all-rows (λ (v : Var). ltb v.begin limit) u.vars no_var u.nvars l
+        ∙ ap (λ (x : Tables). all_below x.nvars (λ i. ltb (var_at x i).begin limit)) is
+        ∙ ap (λ (k : ℕ). all_below (new_tables version s h).nvars (λ i. ltb (var_at (new_tables version s h) i).begin k)) e
 
     pub made-size : u.size ≡ (new_tables version s h).size
     made-size = ap (λ (x : Tables). x.size) is
@@ -112,22 +123,23 @@ module _ (version : ℕ) (s : List ℕ) (h : Header) {u : Tables} where
     pub made_ends : {r : Bool} → r ≡ ends_hold u u.count → r ≡ ends_hold (new_tables version s h) (new_tables version s h).count
     made_ends f = f ∙ ap (λ (x : Tables). ends_hold x x.count) is
 
-    pub made-writes : (out new : List ℕ) (w : Written) → Writes out (write_header s u out) w new → Writes out (write_header s (new_tables version s h) out) w new
+    pub made-writes : (out new : List ℕ) (w : Result ℕ Refusal) → Writes out (write_header s u out) w new → Writes out (write_header s (new_tables version s h) out) w new
     made-writes out new w k = subst (λ (x : Tables). Writes out (write_header s x out) w new) is k
 
 -- a file whose header is refused, and one whose header is read
-module _ (version : ℕ) (s : List ℕ) (size : ℕ) {h : Header} (is : h ≡ read_header s size both_versions) (out : List ℕ) where
+module _ (version : ℕ) (s : List ℕ) (size : ℕ) (out : List ℕ) where
   after : Header → Step New
   after x = converted version s x out
 
-  pub header_refused : {r : Converted} → (h.number ≡ 0 → ⊥) → r ≡ answer_of (stop h.number h.place) → Converts out (convert version s size out) r out
-  unfolding convert after
-  header_refused n e =
-      let f = after-refused h after n ∙ ap (λ (x : Header). after_header x after) is in
-      (e ∙ ap answer_of f, ap (output_or out) f)
+  pub header_refused : (k : Stop) → header_of (Err k) ≡ read_header s size both_versions → Converts out (convert version s size out) (Err k) out
+  unfolding convert after refusal
+  header_refused k is =
+      let h = header_of (Err k) in
+      let f = after-refused h after (refused k.why) ∙ ap (λ (x : Header). after_header x after) is in
+      (ap answer_of f, ap (output_or out) f)
 
-  pub header_read : {r : Converted} {new : List ℕ} → h.number ≡ 0 → Converts out (converted version s h out) r new → Converts out (convert version s size out) r new
+  pub header_read : {h : Header} (r : Result Made Stop) {new : List ℕ} → h ≡ read_header s size both_versions → h.number ≡ 0 → Converts out (converted version s h out) r new → Converts out (convert version s size out) r new
   unfolding convert after
-  header_read z p =
+  header_read {h} r is z p =
       let f = after_read h after z ∙ ap (λ (x : Header). after_header x after) is in
       (p.0 ∙ ap answer_of f, p.1 ∙ ap (output_or out) f)

@@ -1,10 +1,15 @@
 -- Rows of which the first are moved.
-use Prim.Native.Nat.{ℕ, zero, suc, ◌+◌, ◌<◌}
+use Prim.Native.Nat.{ℕ, zero, suc, ◌+◌, ◌≤◌, ◌<◌}
 use native.Mathlib.Omega.{arith}
 use native.Mathlib.Numerals.{add-one}
 use mathlib.Core.Path.{◌≡◌, refl, sym, ap, ◌∙◌}
-use mathlib.Core.Bool.{Bool, true, false, false≢true}
-use mathlib.Core.List.{List, [], ◌∷◌, ◌++◌, map}
+use mathlib.Core.Bool.{Bool, true, false, ◌&&◌, false≢true}
+use Rattle.std.specs.List.{list_all}
+use Rattle.std.proofs.lemmas.List.Folds.{list_all_more}
+use Rattle.cdf.specs.Below.{all_below}
+use mathlib.Core.List.{List, [], ◌∷◌, ◌++◌, map, append-nil}
+use lib.Seq.{take_all}
+use Rattle.std.proofs.lemmas.List.{drop_all}
 use lib.ListN.{length, take, drop, set, get_or}
 
 module _ {A : Type 0} (g : A → A) (d : A) where
@@ -48,6 +53,17 @@ module _ {A : Type 0} (g : A → A) (d : A) where
       ap (λ (l : List A). set l i y) e
       ∙ ap (λ (z : A). set (up_to i xs) i z) (f ∙ ap (λ (l : List A). g (get_or l i d)) e ∙ ap g (next_row xs i h))
       ∙ set-row xs i h ∙ ap (λ (n : ℕ). up_to n xs) (sym (add-one i))
+
+-- all of the first n are moved
+pub all-up : {A : Type 0} (g : A → A) (d : A) (n i : ℕ) (xs : List A) → length (take n xs) ≤ i → up_to g d i (take n xs) ≡ map g (take n xs)
+all-up {A} g d n i xs h =
+    ap (λ (ys : List A). map g ys ++ drop i (take n xs)) (take_all i (take n xs) h) ∙ ap (λ (ys : List A). map g (take n xs) ++ ys) (drop_all i (take n xs) h) ∙ append-nil (map g (take n xs))
+
+-- a test of the first n rows, one by one
+pub all-rows : {A : Type 0} (p : A → Bool) (xs : List A) (d : A) (n : ℕ) → n ≤ length xs → list_all p (take n xs) ≡ all_below n (λ i. p (get_or xs i d))
+unfolding all_below
+all-rows p xs d zero h = refl
+all-rows p xs d (suc n) h = rw (← add-one) (list_all_more p xs n d (omega arith) ∙ ap (λ (b : Bool). b && p (get_or xs n d)) (all-rows p xs d n (omega arith)))
 
 -- a test that does not hold, where it follows from another
 pub broken : {a : Bool} (x : Bool) → (x ≡ true → a ≡ true) → a ≡ false → false ≡ x

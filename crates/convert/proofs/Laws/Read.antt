@@ -29,8 +29,7 @@ use Rattle.order.proofs.Laws.Read.{laid-inside, laid-full}
 use Rattle.order.proofs.Laws.Lengths.{encoded-length}
 use Rattle.order.proofs.Laws.Said.{model-ids}
 use Rattle.order.proofs.Laws.Words.{and}
-use Rattle.header.specs.Header.{read_header}
-use Rattle.header.specs.declared.reader.Header.{Header}
+use Rattle.header.specs.Header.{Header, read_header}
 use Rattle.header.proofs.Laws.Accepted.{Came, accepted-came, tree-size, same-model, same-sizes}
 use Rattle.convert.specs.Convert.{moved, in_version, moved_var, moved_tables, new_end, new_tables}
 use Rattle.convert.specs.Inner.Read.{Read, versioned}
@@ -43,7 +42,7 @@ same-inside s t n = refl
 -- the tables that were read
 module _ (s : List ℕ) (h : Header) (r : Read s h) where
   came : Came s r.size both_versions (read_header s r.size both_versions)
-  came = accepted-came s r.size both_versions (ap (λ (x : Header). x.number) (sym r.is) ∙ r.accepted)
+  came = accepted-came s r.size both_versions (ap (λ (x : Header). x.number) (sym r.is) ∙ r.none)
 
   table_is : h.tables ≡ with_count (laid came.tree) came.count
   table_is = ap (λ (x : Header). x.tables) (r.is ∙ came.is)

@@ -1,29 +1,42 @@
-use Prim.Native.Nat.{ℕ, ◌+◌, ◌<◌}
+use Prim.Native.Nat.{◌+◌, ◌<◌}
 use native.Mathlib.Omega.{arith}
-use mathlib.Core.Path.{◌≡◌, refl, sym, ap, subst, ◌∙◌}
-use lib.ListN.{get_or, length-set}
 use borrow.Author.Rules.{rules}
+use mathlib.Core.Path.{◌≡◌, refl, sym, subst, ◌∙◌}
+use mathlib.Core.List.{◌++◌}
+use lib.ListN.{length, take, drop, get_or, length-set}
+use lib.Seq.{get_or-take, length-take-le}
 use Rattle.grammar.specs.Tables.{no_var}
 use Rattle.grammar.specs.declared.tables.Var.{Var}
 use Rattle.convert.specs.Convert.{moved, moved_var, moved_tables}
-use Rattle.order.proofs.Laws.Rows.{full-rows}
-use Rattle.convert.proofs.Laws.Moved.{up_to, still-row, one_more}
+use Rattle.convert.proofs.Laws.Moved.{still-row, one_more, all-up}
 use Rattle.convert.proofs.begins.moved_tables.Goals as goal
 
-pub loop-i-init : goal.loop-i-init
-loop-i-init c = let l = (full-rows c.args.t _ c.well_formed.0).vars in (omega arith, search rules, l, l, refl)
+pub loop-v-init : goal.loop-v-init
+loop-v-init c = record { long = refl; is = refl }
 
-pub moved-requires : goal.moved-requires
-moved-requires c = let e = still-row (moved_var (moved c.args.old c.args.new)) no_var c.args.t.vars c.loop-i.rows c.loop-i.i (omega arith) c.loop-i.invariant.4 in subst (λ (v : Var). v.begin + c.args.new < 18446744073709551616) (sym e) (c.requires.by_index c.loop-i.i (omega arith))
+pub moved-v-requires : goal.moved-v-requires
+moved-v-requires c =
+    let t = c.args.t.now in
+    let l : length t.vars ≡ 64 = search rules in
+    let few = c.requires.nvars_bound.0 in
+    let m = length-take-le t.nvars t.vars (omega arith) in
+    let h : c.loop-v.v-index < t.nvars = omega arith in
+    let e = still-row (moved_var (moved c.args.old c.args.new)) no_var (take t.nvars t.vars) c.loop-v.v-items c.loop-v.v-index c.loop-v-test.true c.loop-v.invariant.is ∙ get_or-take t.nvars t.vars c.loop-v.v-index no_var h in
+    subst (λ (v : Var). v.begin + c.args.new < 18446744073709551616) (sym e) (c.requires.by_index c.loop-v.v-index h)
 
-pub loop-i-preserved : goal.loop-i-preserved
-loop-i-preserved c =
-    let l = length-set c.loop-i.rows c.loop-i.i (record { name = (get_or c.loop-i.rows c.loop-i.i no_var).name; chars = (get_or c.loop-i.rows c.loop-i.i no_var).chars; ids = (get_or c.loop-i.rows c.loop-i.i no_var).ids; rank = (get_or c.loop-i.rows c.loop-i.i no_var).rank; first = (get_or c.loop-i.rows c.loop-i.i no_var).first; attrs = (get_or c.loop-i.rows c.loop-i.i no_var).attrs; code = (get_or c.loop-i.rows c.loop-i.i no_var).code; vsize = (get_or c.loop-i.rows c.loop-i.i no_var).vsize; begin = c.moved.result }) in
-    (omega arith, search rules, search rules, omega arith, one_more (moved_var (moved c.args.old c.args.new)) no_var c.args.t.vars c.loop-i.rows c.loop-i.i _ (omega arith) c.loop-i.invariant.4 (λ j. record { name = (get_or c.loop-i.rows c.loop-i.i no_var).name; chars = (get_or c.loop-i.rows c.loop-i.i no_var).chars; ids = (get_or c.loop-i.rows c.loop-i.i no_var).ids; rank = (get_or c.loop-i.rows c.loop-i.i no_var).rank; first = (get_or c.loop-i.rows c.loop-i.i no_var).first; attrs = (get_or c.loop-i.rows c.loop-i.i no_var).attrs; code = (get_or c.loop-i.rows c.loop-i.i no_var).code; vsize = (get_or c.loop-i.rows c.loop-i.i no_var).vsize; begin = c.moved.ensures j }))
+pub loop-v-preserved : goal.loop-v-preserved
+loop-v-preserved c =
+    let v = get_or c.loop-v.v-items c.loop-v.v-index no_var in
+    let e : record { name = v.name; chars = v.chars; ids = v.ids; rank = v.rank; first = v.first; attrs = v.attrs; code = v.code; vsize = v.vsize; begin = c.moved-v.result } ≡ moved_var (moved c.args.old c.args.new) v =
+    λ j. record { name = v.name; chars = v.chars; ids = v.ids; rank = v.rank; first = v.first; attrs = v.attrs; code = v.code; vsize = v.vsize; begin = c.moved-v.ensures j } in
+    record {
+      long = length-set c.loop-v.v-items c.loop-v.v-index _ ∙ c.loop-v.invariant.long;
+      is = one_more (moved_var (moved c.args.old c.args.new)) no_var (take c.args.t.now.nvars c.args.t.now.vars) c.loop-v.v-items c.loop-v.v-index _ c.loop-v-test.true c.loop-v.invariant.is e;
+    }
 
 pub returns : goal.returns
 unfolding moved_tables
 returns c =
-    let e : c.loop-i.i ≡ c.args.t.nvars = omega arith in
-    let v = c.loop-i.invariant.4 ∙ ap (λ (n : ℕ). up_to (moved_var (moved c.args.old c.args.new)) no_var n c.args.t.vars) e in
-    λ j. record { version = c.args.version; word = c.args.t.word; count = c.args.t.count; ndims = c.args.t.ndims; dims = c.args.t.dims; nattrs = c.args.t.nattrs; globals = c.args.t.globals; attrs = c.args.t.attrs; nvars = c.args.t.nvars; size = c.moved-2.ensures j; vars = v j }
+    let t = c.args.t.now in
+    let v = c.loop-v.invariant.is ∙ all-up (moved_var (moved c.args.old c.args.new)) no_var t.nvars c.loop-v.v-index t.vars c.loop-v-test.false in
+    λ j. record { version = c.args.version; word = t.word; count = t.count; ndims = t.ndims; dims = t.dims; nattrs = t.nattrs; globals = t.globals; attrs = t.attrs; nvars = t.nvars; size = c.moved.ensures j; vars = v j ++ drop t.nvars t.vars }

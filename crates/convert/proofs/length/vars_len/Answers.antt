@@ -1,20 +1,33 @@
-use mathlib.Core.Path.{refl}
 use native.Mathlib.Omega.{arith}
-use Rattle.order.proofs.Laws.Sums.{sum-none, sum_more, attrs-all, var-all, vars-all}
 use borrow.Author.Rules.{rules}
+use mathlib.Core.Path.{◌≡◌, ap, ◌∙◌}
+use lib.ListN.{length, get_or}
+use Rattle.sizes.specs.Records.{total}
+use Rattle.grammar.specs.Tables.{no_var}
+use Rattle.order.proofs.Laws.Sums.{sum-none, sum_more}
+use Rattle.convert.specs.Inner.Read.{var_length}
+use Rattle.convert.proofs.Laws.Length.{span-length, both_same}
 use Rattle.convert.proofs.length.vars_len.Goals as goal
 
-pub loop-i-init : goal.loop-i-init
-loop-i-init c = (omega arith, search rules, refl, omega arith, sum-none _)
+pub loop-v-init : goal.loop-v-init
+loop-v-init c = record { few = c.requires.few; small = omega arith; is = sum-none _ }
 
-pub loop-k-init : goal.loop-k-init
-loop-k-init c = let p = c.requires in (omega arith, omega (arith, p.spans _ c.loop-i-test.true, p.attrs), omega arith, sum-none _)
+pub slice_bounds-attrs_len-end : goal.slice_bounds-attrs_len-end
+slice_bounds-attrs_len-end c = omega (arith, c.requires.spans c.loop-v.v-index c.loop-v-test.true)
 
-pub loop-k-preserved : goal.loop-k-preserved
-loop-k-preserved c = (omega arith, search rules, search rules, sum_more _ _ c.loop-k.invariant.3 c.attr_len-own.ensures.0)
+pub attrs_len-requires : goal.attrs_len-requires
+attrs_len-requires c = search rules
 
-pub loop-i-preserved : goal.loop-i-preserved
-loop-i-preserved c = (omega arith, search rules, search rules, search rules, sum_more _ _ c.loop-i.invariant.4 (var-all _ _ c.var_len.ensures.0 (attrs-all _ _ (omega arith) c.loop-k.invariant.3)))
+pub loop-v-preserved : goal.loop-v-preserved
+loop-v-preserved c =
+    let v = get_or c.args.vars.now c.loop-v.v-index no_var in
+    record {
+      few = c.requires.few;
+      small = omega (arith, c.var_len.ensures.1, c.attrs_len.ensures.1, c.loop-v.invariant.small);
+      is = sum_more _ _ c.loop-v.invariant.is (both_same c.var_len.ensures.0 (c.attrs_len.ensures.0 ∙ span-length c.args.attrs.now v.first v.attrs (c.requires.spans c.loop-v.v-index c.loop-v-test.true)));
+    }
 
 pub returns : goal.returns
-returns c = (vars-all _ (omega arith) c.loop-i.invariant.4, search rules)
+returns c =
+    let e : c.loop-v.v-index ≡ length c.args.vars.now = omega arith in
+    (c.loop-v.invariant.is ∙ ap (total (λ j. var_length c.args.version c.args.attrs.now (get_or c.args.vars.now j no_var))) e, omega arith)
