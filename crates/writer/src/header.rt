@@ -42,11 +42,9 @@ fn put_first(bytes: &mut [u8], text: &[u8], t: &Tables)
 pub fn write_header(t: Tables, text: &[u8], out: &mut [u8]) -> Result<u64, Refusal>
     ensures { Writes out.old (write_header text.now t out.old) result out.new }
 {
-    let verdict = judged(text, t);
-    if !verdict.writable {
+    let Some(length) = judged(text, t) else {
         return Err(Refusal::Tables);
-    }
-    let length = verdict.length;
+    };
     if (out.len() as u64) < length {
         return Err(Refusal::OutputRoom);
     }
