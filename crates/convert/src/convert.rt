@@ -28,8 +28,10 @@ fn new_ends_hold(t: &Tables) -> bool
     requires { Shaped t.now × (ids_hold t.now ≡ true) × (ends_hold t.now t.now.count ≡ true → sizes_hold t.now ≡ true) }
     ensures { result ≡ ends_hold t.now t.now.count }
 {
-    let z = measure(*t);
-    z.hold && ends_hold(z, t.count)
+    let Some(z) = measure(t) else {
+        return false;
+    };
+    ends_hold(z, t.count)
 }
 
 // The file whose header was read from `prefix`.

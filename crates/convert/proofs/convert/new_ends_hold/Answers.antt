@@ -1,10 +1,11 @@
 use mathlib.Core.Path.{sym, ◌∙◌}
+use Rattle.sizes.proofs.Laws.When.{when-some, when-none}
 use Rattle.sizes.proofs.Laws.Count.{ends_by}
 use Rattle.convert.proofs.Laws.Moved.{broken}
 use Rattle.convert.proofs.convert.new_ends_hold.Goals as goal
 
-pub returns-then-z : goal.returns-then-z
-returns-then-z c = ends_by _ _ (sym c.measure-z.ensures.0 ∙ c.if-z.true) (c.measure-z.ensures.1 c.if-z.true) c.ends_hold.ensures
+pub returns-in_default : goal.returns-in_default
+returns-in_default c = broken _ c.requires.2 (when-none _ _ (sym c.measure.ensures ∙ c.in_default.is))
 
-pub returns-else-z : goal.returns-else-z
-returns-else-z c = c.if-z.false ∙ broken _ c.requires.2 (sym c.measure-z.ensures.0 ∙ c.if-z.false)
+pub returns : goal.returns
+returns c = let w = when-some _ _ (sym c.measure.ensures ∙ c.in-Some.is) in ends_by _ _ w.0 w.1 c.ends_hold.ensures
