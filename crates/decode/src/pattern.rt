@@ -14,6 +14,7 @@ pub fn f32_of(b: u32) -> f32
     }
 }
 
+// By itself: the two widths share no trait with a shift, an order and `from_bits`, and one of our own would be longer than both.
 pub fn f64_of(b: u64) -> f64
     ensures { result ≡ double b }
 {

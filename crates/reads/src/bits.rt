@@ -17,7 +17,7 @@ use decode::short::be16;
 use found::variable::Spread;
 use items::types::DataType;
 
-// The code of a type and the bits of a value of it.
+// The code of a type and the bits of a value of it. A number and no `DataType`: so it crosses to C.
 #[derive(Clone, Copy, Debug, PartialEq, Eq, Hash)]
 pub struct Bits {
     pub code: u8,
