@@ -17,7 +17,8 @@ use Rattle.items.specs.Types.{size_of}
 use Rattle.grammar.specs.Tables.{no_dim, dim_at, var_at, id_at}
 use Rattle.grammar.specs.declared.tables.Var.{Var}
 use Rattle.grammar.specs.declared.tables.Tables.{Tables}
-use Rattle.model.specs.Model.{Span, same_name, is_new, distinct, dim_names, var_names, attr_names, names_hold, is_unlimited, one_unlimited, id_holds, ids_hold, model_holds}
+use Rattle.model.specs.declared.names.Span.{Span}
+use Rattle.model.specs.Model.{same_name, is_new, distinct, dim_names, var_names, attr_names, names_hold, is_unlimited, one_unlimited, id_holds, ids_hold, model_holds}
 use Rattle.convert.proofs.Laws.Read.{total-same}
 use Rattle.sizes.specs.Records.{product, total, smallest, length_at, is_record, outer, chunk, chunk_bytes, padded_bytes, record_part, record_size, max_position, max_chunk, sizes_hold, end_of, ends_hold}
 use Rattle.sizes.specs.Count.{has_unlimited, has_records, is_open, first_begin, record_count}

@@ -5,13 +5,6 @@ use Rattle.cdf.specs.Step.{Step, got, stop}
 use Rattle.cdf.specs.Refusals.{answered}
 use Rattle.cdf.specs.declared.refusal.Refusal.{Refusal}
 use Rattle.cdf.proofs.Laws.Refusals.{refused, same-number, same_result}
-use Rattle.lookup.specs.Lookup.{of_found}
-use Rattle.lookup.specs.declared.names.Found.{Found}
-use Rattle.lookup.specs.declared.names.Found.TheVariants.{At, Refused as Missing}
-use Rattle.guest32.specs.Guest.{of_answer}
-use Rattle.guest32.specs.declared.guest.Guest.{Guest}
-use Rattle.guest32.specs.declared.guest.Answer.{Answer}
-use Rattle.guest32.specs.declared.guest.Answer.TheVariants.{Got as Made, Refused as Unmade}
 use Prim.Native.Nat.{ℕ}
 use Rattle.demands.specs.Determined.{HeaderDetermined, OutputsDetermined, ReadsDetermined, ResultsDetermined, FoundDetermined, GuestDetermined, ElementsDetermined, LoadsDetermined, PartsDetermined, LookupsDetermined, NumbersDetermined, WriterDetermined, ConversionDetermined}
 
@@ -30,28 +23,9 @@ pub outputs-determined : OutputsDetermined
 unfolding OutputsDetermined
 outputs-determined A out y k k' new new' p q = (p.0 ∙ sym q.0, p.1 ∙ sym q.1)
 
--- what an answer means gives the answer back
-found_back : Step ℕ → Found
-found_back (got i n) = At i
-found_back (stop k p) = Missing k
-
-found-kept : (f : Found) → found_back (of_found f) ≡ f
-unfolding found_back
-found-kept (At i) = refl
-found-kept (Missing k) = refl
-
-answer_back : Step Guest → Answer
-answer_back (got g n) = Made g
-answer_back (stop k p) = Unmade k
-
-answer-kept : (x : Answer) → answer_back (of_answer x) ≡ x
-unfolding answer_back
-answer-kept (Made g) = refl
-answer-kept (Unmade k) = refl
-
 pub guest-determined : GuestDetermined
 unfolding GuestDetermined
-guest-determined y x x' p q = sym (answer-kept x) ∙ ap answer_back (p ∙ sym q) ∙ answer-kept x'
+guest-determined y x x' p q = same_result x x' (p ∙ sym q)
 
 pub reads-determined : ReadsDetermined
 unfolding ReadsDetermined
@@ -80,7 +54,8 @@ parts-determined A B y part old new new' p q = p ∙ sym q
 pub lookups-determined : LookupsDetermined
 unfolding LookupsDetermined
 lookups-determined = (
-  λ y f f' p q. sym (found-kept f) ∙ ap found_back (p ∙ sym q) ∙ found-kept f',
+  λ y f f' p q. same_result f f' (p ∙ sym q),
+  λ y r r' p q. same_result r r' (p ∙ sym q),
   λ b t i r r' p q. (p.block ∙ sym q.block, p.start ∙ sym q.start, p.bytes ∙ sym q.bytes),
 )
 

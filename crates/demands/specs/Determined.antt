@@ -9,14 +9,12 @@ use Rattle.cdf.specs.declared.version.Admitted.{Admitted}
 use Rattle.grammar.specs.declared.tables.Tables.{Tables}
 use Rattle.header.specs.Header.{Conforms}
 use Rattle.header.specs.declared.reader.Header.{Header}
-use Rattle.lookup.specs.Lookup.{of_found, IsName}
+use Rattle.lookup.specs.Lookup.{IsName}
 use Rattle.found.specs.declared.variable.Spread.{Spread}
 use Rattle.reads.specs.declared.element.Value.{Value}
 use Rattle.reads.specs.declared.bits.Bits.{Bits}
-use Rattle.lookup.specs.declared.names.Found.{Found}
-use Rattle.guest32.specs.Guest.{of_answer}
 use Rattle.guest32.specs.declared.guest.Guest.{Guest}
-use Rattle.guest32.specs.declared.guest.Answer.{Answer}
+use Rattle.model.specs.declared.names.Span.{Span}
 use Rattle.crossing.specs.Words.{Loads}
 use Rattle.crossing.specs.declared.load.Loaded.{Loaded}
 use Rattle.outputs.specs.Outputs.{Gets}
@@ -52,7 +50,7 @@ FoundDetermined = (y : Step Spread) (x x' : Result Spread Refusal) → of_result
 
 -- what a 32-bit build of netcdf3 makes of a file
 unfoldable pub GuestDetermined : Type 0
-GuestDetermined = (y : Step Guest) (x x' : Answer) → of_answer x ≡ y → of_answer x' ≡ y → x ≡ x'
+GuestDetermined = (y : Step Guest) (x x' : Result Guest Refusal) → of_result x ≡ y → of_result x' ≡ y → x ≡ x'
 
 -- a value: every element read; and a value's bits
 unfoldable pub ElementsDetermined : Type 0
@@ -68,13 +66,14 @@ LoadsDetermined = (s : List ℕ) (r r' : Loaded) → Loads s r → Loads s r' �
 unfoldable pub PartsDetermined : Type 1
 PartsDetermined = (A B : Type 0) (y : Step A) (part : A → ℕ → B) (old new new' : B) → Gets y part old new → Gets y part old new' → new ≡ new'
 
--- a variable's number; and a name, which is the same part of the buffer and not merely the same bytes
+-- a variable's number; where a name stands; and a name, which is the same part of the buffer and not merely the same bytes
 unfoldable pub LookupsDetermined : Type 0
 LookupsDetermined =
-    ((y : Step ℕ) (f f' : Found) → of_found f ≡ y → of_found f' ≡ y → f ≡ f')
+    ((y : Step ℕ) (f f' : Result ℕ Refusal) → of_result f ≡ y → of_result f' ≡ y → f ≡ f')
+    × ((y : Step Span) (r r' : Result Span Refusal) → of_result r ≡ y → of_result r' ≡ y → r ≡ r')
     × ((b : Bor (List ℕ)) (t : Tables) (i : ℕ) (r r' : Bor (List ℕ)) → IsName b t i r → IsName b t i r' → (r.ref_ptr.0 ≡ r'.ref_ptr.0) × (r.ref_ptr.1 ≡ r'.ref_ptr.1) × (r.now ≡ r'.now))
 
--- a number alone: the answer number of the lookup of a name, and the exported functions that have no output
+-- a number alone: the exported functions that have no output
 unfoldable pub NumbersDetermined : Type 0
 NumbersDetermined = (n k k' : ℕ) → k ≡ n → k' ≡ n → k ≡ k'
 

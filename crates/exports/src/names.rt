@@ -4,7 +4,7 @@ ghost use Rattle.outputs.specs.Outputs.{TellsNumber, TellsName};
 ghost use Rattle.exports.specs.Reader.{of_tables};
 
 use crossing::load::load_tables;
-use lookup::names::{Found, find_var, var_name_answer};
+use lookup::names::{find_name, find_var};
 
 // The number of the first variable of a name.
 pub fn fungal_find_var(tables: &[u64], text: &[u8], name: &[u8], number: &mut u64) -> u8
@@ -14,9 +14,9 @@ pub fn fungal_find_var(tables: &[u64], text: &[u8], name: &[u8], number: &mut u6
     if loaded.number != 0 {
         return loaded.number;
     }
-    match find_var(text, loaded.tables, name) {
-        Found::Refused(k) => k,
-        Found::At(i) => {
+    match find_var(text, &loaded.tables, name) {
+        Err(k) => k.number(),
+        Ok(i) => {
             *number = i as u64;
             0
         }
@@ -31,13 +31,12 @@ pub fn fungal_var_name(tables: &[u64], text: &[u8], i: u64, at: &mut u64, chars:
     if loaded.number != 0 {
         return loaded.number;
     }
-    let t = loaded.tables;
-    let number = var_name_answer(text, t, i as usize);
-    if number != 0 {
-        return number;
+    match find_name(text, &loaded.tables, i as usize) {
+        Err(k) => k.number(),
+        Ok(span) => {
+            *at = span.at as u64;
+            *chars = span.chars as u64;
+            0
+        }
     }
-    let v = t.vars[i as usize];
-    *at = v.name as u64;
-    *chars = v.chars as u64;
-    0
 }

@@ -1,7 +1,7 @@
 -- How an answer crosses to another language: its number is returned, and what it gives goes to the caller's outputs.
 use Rattle.std.specs.Prelude.{ℕ, ◌≡◌, List}
 use Rattle.cdf.specs.Step.{Step, got, stop, number_of}
-use Rattle.model.specs.Model.{Span}
+use Rattle.model.specs.declared.names.Span.{Span}
 use Rattle.convert.specs.Convert.{New}
 use Rattle.reads.specs.declared.bits.Bits.{Bits}
 use Rattle.guest32.specs.declared.guest.Guest.{Guest}

@@ -6,7 +6,7 @@ use Rattle.cdf.specs.Step.{Step, got, stop, number_of, given_or, Leaves}
 use Rattle.found.specs.declared.variable.Spread.{Spread}
 use Rattle.reads.specs.declared.bits.Bits.{Bits}
 use Rattle.guest32.specs.declared.guest.Guest.{Guest}
-use Rattle.model.specs.Model.{Span}
+use Rattle.model.specs.declared.names.Span.{Span}
 use Rattle.convert.specs.Convert.{New, answer_of, output_or}
 use Rattle.convert.specs.declared.convert.Converted.{Converted}
 use Rattle.outputs.specs.Outputs.{part_or, Gets, TellsList, TellsNumber, TellsName, TellsElement, TellsConverted, TellsGuest}
