@@ -10,7 +10,7 @@ pub returns-then-loaded-ne0 : goal.returns-then-loaded-ne0
 returns-then-loaded-ne0 c = load-stop _ (λ t. find_var c.args.text.now t c.args.name.now) c.load_tables-loaded.ensures c.if-loaded-ne0.true (λ p e. number_is _ e)
 
 pub returns-in-Err : goal.returns-in-Err
-returns-in-Err c = number_is _ (ap (λ (k : ℕ). stop k 0) c.number-2.ensures ∙ c.in-Err.ensures ∙ load-got _ (λ t. find_var c.args.text.now t c.args.name.now) c.load_tables-loaded.ensures c.if-loaded-ne0.false)
+returns-in-Err c = number_is _ (ap (λ (k : ℕ). stop k 0) c.number.ensures ∙ c.in-Err.ensures ∙ load-got _ (λ t. find_var c.args.text.now t c.args.name.now) c.load_tables-loaded.ensures c.if-loaded-ne0.false)
 
 pub returns-in-Ok : goal.returns-in-Ok
 returns-in-Ok c = number_is _ (c.in-Ok.ensures ∙ load-got _ (λ t. find_var c.args.text.now t c.args.name.now) c.load_tables-loaded.ensures c.if-loaded-ne0.false)
