@@ -14,13 +14,14 @@ pub fn fungal_widen(
 ) -> u8
     ensures { TellsConverted (convert 2 prefix.now size out.old) result out.old out.new length.old length.new grown.old grown.new }
 {
-    let answer = widen(prefix, size, out);
-    if answer.number != 0 {
-        return answer.number;
+    match widen(prefix, size, out) {
+        Ok(new) => {
+            *length = new.length;
+            *grown = new.size;
+            0
+        }
+        Err(stop) => stop.why.number(),
     }
-    *length = answer.length;
-    *grown = answer.size;
-    0
 }
 
 pub fn fungal_narrow(
@@ -32,11 +33,12 @@ pub fn fungal_narrow(
 ) -> u8
     ensures { TellsConverted (convert 1 prefix.now size out.old) result out.old out.new length.old length.new grown.old grown.new }
 {
-    let answer = narrow(prefix, size, out);
-    if answer.number != 0 {
-        return answer.number;
+    match narrow(prefix, size, out) {
+        Ok(new) => {
+            *length = new.length;
+            *grown = new.size;
+            0
+        }
+        Err(stop) => stop.why.number(),
     }
-    *length = answer.length;
-    *grown = answer.size;
-    0
 }

@@ -35,22 +35,25 @@ pub fn fungal_read_header(
 ) -> u8
     ensures { TellsList (header_words prefix.now size versions tables.old) result tables.old tables.new end.old end.new }
 {
-    let h = read_header(prefix, size, admitted(versions));
-    if h.number != 0 {
-        return h.number;
+    let h = match read_header(prefix, size, admitted(versions)) {
+        Ok(h) => h,
+        Err(stop) => return stop.why.number(),
+    };
+    match store_tables(&h.tables, tables) {
+        Ok(()) => {
+            *end = h.end as u64;
+            0
+        }
+        Err(k) => k.number(),
     }
-    let number = store_tables(h.tables, tables);
-    if number != 0 {
-        return number;
-    }
-    *end = h.end as u64;
-    0
 }
 
 // The place that belongs to the number of `fungal_read_header`; 0 where it has none.
 pub fn fungal_header_place(prefix: &[u8], size: u64, versions: u8) -> u64
     ensures { result ≡ (read_header prefix.now size (admitted versions)).place }
 {
-    let h = read_header(prefix, size, admitted(versions));
-    h.place as u64
+    match read_header(prefix, size, admitted(versions)) {
+        Ok(_) => 0,
+        Err(stop) => stop.place as u64,
+    }
 }

@@ -11,7 +11,6 @@ ghost use Rattle.exports.specs.Variable.{placed, taken};
 use cdf::refusal::Refusal;
 use crossing::load::load_tables;
 use found::variable::{Spread, seek};
-use grammar::tables::Tables;
 use items::types::DataType;
 
 // How many words a variable takes.
@@ -37,21 +36,18 @@ fn put(v: Spread, out: &mut [u64]) -> Result<(), Refusal>
     Ok(())
 }
 
-fn place(t: &Tables, i: usize, var: &mut [u64]) -> Result<(), Refusal>
-    ensures { Leaves var.old (bind (sought t.now i) (λ v _. placed var.old v)) (answered result) var.new }
+fn place(tables: &[u64], i: usize, var: &mut [u64]) -> Result<(), Refusal>
+    ensures { Leaves var.old (of_tables tables.now (λ t. bind (sought t i) (λ v _. placed var.old v))) (answered result) var.new }
 {
-    put(seek(t, i)?, var)
+    let t = load_tables(tables)?;
+    put(seek(&t, i)?, var)
 }
 
 // Finds the variable `i` in the tables and puts down its numbers, for reads of it.
 pub fn fungal_place_var(tables: &[u64], i: u64, var: &mut [u64]) -> u8
     ensures { Leaves var.old (of_tables tables.now (λ t. bind (sought t i) (λ v _. placed var.old v))) result var.new }
 {
-    let loaded = load_tables(tables);
-    if loaded.number != 0 {
-        return loaded.number;
-    }
-    place(&loaded.tables, i as usize, var)
+    place(tables, i as usize, var)
         .err()
         .map_or(0, Refusal::number)
 }

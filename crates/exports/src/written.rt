@@ -10,14 +10,15 @@ use writer::header::write_header;
 pub fn fungal_write_header(tables: &[u64], text: &[u8], out: &mut [u8], length: &mut u64) -> u8
     ensures { TellsList (of_tables tables.now (λ t. write_header text.now t out.old)) result out.old out.new length.old length.new }
 {
-    let loaded = load_tables(tables);
-    if loaded.number != 0 {
-        return loaded.number;
+    let t = match load_tables(tables) {
+        Ok(t) => t,
+        Err(k) => return k.number(),
+    };
+    match write_header(t, text, out) {
+        Ok(n) => {
+            *length = n;
+            0
+        }
+        Err(k) => k.number(),
     }
-    let written = write_header(loaded.tables, text, out);
-    if written.number != 0 {
-        return written.number;
-    }
-    *length = written.length;
-    0
 }

@@ -7,8 +7,12 @@ use Rattle.found.specs.declared.variable.Spread.{Spread}
 use Rattle.reads.specs.declared.bits.Bits.{Bits}
 use Rattle.guest32.specs.declared.guest.Guest.{Guest}
 use Rattle.model.specs.declared.names.Span.{Span}
-use Rattle.convert.specs.Convert.{New, answer_of, output_or}
-use Rattle.convert.specs.declared.convert.Converted.{Converted}
+use Rattle.std.specs.Prelude.{Ok, Err}
+use Rattle.cdf.specs.Refusals.{number}
+use Rattle.cdf.specs.declared.refusal.Stop.{Stop}
+use Rattle.cdf.proofs.Laws.Refusals.{refused}
+use Rattle.convert.specs.Convert.{New, Converted, answer_of, output_or, converted_of}
+use Rattle.convert.specs.declared.convert.Converted.{Converted as Made}
 use Rattle.outputs.specs.Outputs.{part_or, Gets, TellsList, TellsNumber, TellsName, TellsElement, TellsConverted, TellsGuest}
 use Rattle.outputs.proofs.Laws.Numbers.{Numbered}
 
@@ -36,10 +40,10 @@ pub list-is : {z y : Step (List ℕ)} {new : List ℕ} (out : List ℕ) (place :
 list-is out place f e = (ap number_of e, f ∙ gets _ out e, gets _ place e)
 
 -- a converted header, by its answer and its output
-pub converted-refused : (y : Step New) {r : Converted} (out : List ℕ) {new : List ℕ} (length size : ℕ) → r ≡ answer_of y → new ≡ output_or out y → (r.number ≡ 0 → ⊥) → TellsConverted y r.number out new length length size size
-converted-refused (got x n) out length size e f z = absurd (z (ap (λ (r : Converted). r.number) e))
-converted-refused (stop k p) out length size e f z = (ap (λ (r : Converted). r.number) e, f, refl, refl)
+pub converted-refused : (y : Step New) (k : Stop) (out : List ℕ) {new : List ℕ} (length size : ℕ) → converted_of (Err k) ≡ answer_of y → new ≡ output_or out y → TellsConverted y (number k.why) out new length length size size
+converted-refused (got x n) k out length size e f = absurd (refused k.why (ap (λ (r : Converted). r.number) e))
+converted-refused (stop i p) k out length size e f = (ap (λ (r : Converted). r.number) e, f, refl, refl)
 
-pub converted-told : (y : Step New) {r : Converted} (out : List ℕ) {new : List ℕ} (length size : ℕ) → Numbered y → r ≡ answer_of y → new ≡ output_or out y → r.number ≡ 0 → TellsConverted y 0 out new length r.length size r.size
-converted-told (got x n) out length size m e f z = (refl, f, ap (λ (r : Converted). r.length) e, ap (λ (r : Converted). r.size) e)
-converted-told (stop k p) out length size m e f z = absurd (m (sym (ap (λ (r : Converted). r.number) e) ∙ z))
+pub converted-told : (y : Step New) (r : Made) (out : List ℕ) {new : List ℕ} (length size : ℕ) → Numbered y → converted_of (Ok r) ≡ answer_of y → new ≡ output_or out y → TellsConverted y 0 out new length r.length size r.size
+converted-told (got x n) r out length size m e f = (refl, f, ap (λ (r : Converted). r.length) e, ap (λ (r : Converted). r.size) e)
+converted-told (stop k p) r out length size m e f = absurd (m (sym (ap (λ (r : Converted). r.number) e)))
