@@ -4,7 +4,7 @@ ghost use Rattle.grammar.specs.Inner.Within.{Shaped};
 ghost use Rattle.model.specs.Model.{ids_hold};
 ghost use Rattle.sizes.specs.Records.{sizes_hold, ends_hold};
 ghost use Rattle.convert.specs.Convert.{converted, convert, Converts};
-ghost use Rattle.convert.specs.Inner.Read.{Read, accepted, stopped};
+ghost use Rattle.convert.specs.Inner.Read.{Read, as_read, stopped};
 
 use crate::begins::{begins_behind, begins_below, moved_tables};
 use crate::length::header_len;
@@ -36,8 +36,8 @@ fn new_ends_hold(t: &Tables) -> bool
 
 // The file whose header was read from `prefix`.
 fn in_version(h: &Header, prefix: &[u8], version: u8, out: &mut [u8]) -> Result<Converted, Refusal>
-    requires { Read prefix.now (accepted h.now) }
-    ensures { Converts out.old (converted version prefix.now (accepted h.now) out.old) (stopped result) out.new }
+    requires { Read prefix.now (as_read h.now) }
+    ensures { Converts out.old (converted version prefix.now (as_read h.now) out.old) (stopped result) out.new }
 {
     let t = &h.tables;
     let old = h.end as u64;

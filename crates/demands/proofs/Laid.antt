@@ -1,12 +1,12 @@
 -- The tables of an accepted header hold what was read.
 use mathlib.Core.Path.{refl, sym, ap, ◌∙◌}
+use Rattle.header.specs.Header.{Header}
 use Rattle.cdf.proofs.Laws.Step.{got_same, into-got}
 use Rattle.grammar.specs.Tree.{Tree}
 use Rattle.grammar.specs.Tables.{laid}
 use Rattle.grammar.specs.Meaning.{meaning, held, said}
 use Rattle.grammar.proofs.Laws.Meaning.{laid-held}
 use Rattle.grammar.proofs.Laws.Within.{read-within}
-use Rattle.header.specs.declared.reader.Header.{Header}
 use Rattle.header.proofs.Laws.Accepted.{accepted-came}
 use Rattle.demands.specs.Laid.{NothingLost}
 

@@ -7,6 +7,7 @@ use mathlib.Core.Path.{◌≡◌, refl, sym, ap, subst, ◌∙◌}
 use mathlib.Core.Bool.{Bool, true, false}
 use mathlib.Core.List.{List}
 use borrow.Author.Tests.{leb-true, ltb-true, eqb-true}
+use Rattle.header.specs.Header.{Header}
 use Rattle.cdf.specs.Step.{got, given_or}
 use Rattle.cdf.specs.Below.{any_below}
 use Rattle.cdf.specs.declared.version.Admitted.{Admitted}
@@ -21,7 +22,6 @@ use Rattle.model.specs.Model.{is_unlimited, ids_hold}
 use Rattle.sizes.specs.Records.{smallest, is_record, record_size, max_position}
 use Rattle.sizes.specs.Count.{has_unlimited, has_records, is_open, first_begin, record_count}
 use Rattle.sizes.specs.Inner.Sizes.{divided}
-use Rattle.header.specs.declared.reader.Header.{Header}
 use Rattle.model.proofs.Laws.Model.{model-has-ids}
 use Rattle.sizes.proofs.Laws.Records.{begin-in, id_below}
 use Rattle.sizes.proofs.Laws.Count.{records-positive}

@@ -7,6 +7,7 @@ use mathlib.Core.Path.{◌≡◌, refl, sym, ap, subst, ◌∙◌}
 use mathlib.Core.Bool.{Bool, true, false}
 use lib.Dec.{leb, eqb}
 use borrow.Author.Tests.{le-leb, lt-leb, lt-ltb, leb-true}
+use Rattle.header.specs.Header.{Header}
 use Rattle.cdf.specs.Step.{Step, got, test}
 use Rattle.cdf.proofs.Laws.Below.{order, first-none}
 use Rattle.cdf.proofs.Laws.Step.{by-true, by-false, test-came, got_same}
@@ -20,7 +21,6 @@ use Rattle.found.specs.Sought.{tables_hold}
 use Rattle.found.proofs.Laws.Sought.{tables-parts}
 use Rattle.guest32.specs.Guest.{word32, low32, guest_step, guest_first, guest_rest, opened, guest_count, elsewhere, cut_short, first_foreign, first_cut, guest32}
 use Rattle.guest32.proofs.Laws.Guest.{step-low, elsewhere-is, cut-is, cut-not, guest-counted}
-use Rattle.header.specs.declared.reader.Header.{Header}
 use Rattle.header.proofs.Laws.Accepted.{accepted-came, same_count}
 use Rattle.demands.proofs.Written.{read-holds}
 use Rattle.demands.proofs.RecordCount.{smallest-below, smallest-one}

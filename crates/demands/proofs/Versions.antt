@@ -193,7 +193,7 @@ module _ (v : ℕ) (one : (v ≡ 1) ⊎ (v ≡ 2)) (s : List ℕ) (size : ℕ) w
 pub one-version : OneVersion
 unfolding OneVersion read_header
 one-version v one s size inside small = (
-  λ a. sym (read-stops s size (only v) inside small refl (into-stop laid (refused v one s size a))),
+  λ a. sym (read-stops s size (only v) inside small (into-stop laid (refused v one s size a))),
   λ h. ⊎_elim (λ (a : Another s v). a) (λ (n : Another s v → ⊥). absurd (read-not4 v one s size n h)) (another v one s size),
   λ n. ap (λ (m : Step Tree). answer (test (leb (length s) size && leb size max_position) (bind (into laid m) (judged s)) (stop 21 0))) (same-header v one s size n),
 )

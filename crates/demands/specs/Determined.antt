@@ -1,14 +1,15 @@
 -- Demand 1 (01, What each answer must decide: "That two conforming results coincide is proved"). Each line takes two answers that meet a contract,
 -- in the contract's own words: every entry's contract has one of these forms (tests/reach looks).
-use Rattle.std.specs.Prelude.{ℕ, ◌≡◌, List, Result}
+use Rattle.std.specs.Prelude.{ℕ, ◌≡◌, Result, List}
 use Rattle.std.specs.Borrow.{Bor}
 use Rattle.cdf.specs.Step.{Step, Leaves}
 use Rattle.cdf.specs.Refusals.{of_result, answered}
 use Rattle.cdf.specs.declared.refusal.Refusal.{Refusal}
+use Rattle.cdf.specs.declared.refusal.Stop.{Stop}
 use Rattle.cdf.specs.declared.version.Admitted.{Admitted}
 use Rattle.grammar.specs.declared.tables.Tables.{Tables}
 use Rattle.header.specs.Header.{Conforms}
-use Rattle.header.specs.declared.reader.Header.{Header}
+use Rattle.header.specs.declared.reader.Header.{Header as Read}
 use Rattle.lookup.specs.Lookup.{IsName}
 use Rattle.found.specs.declared.variable.Spread.{Spread}
 use Rattle.reads.specs.declared.element.Value.{Value}
@@ -16,16 +17,14 @@ use Rattle.reads.specs.declared.bits.Bits.{Bits}
 use Rattle.guest32.specs.declared.guest.Guest.{Guest}
 use Rattle.model.specs.declared.names.Span.{Span}
 use Rattle.crossing.specs.Words.{Loads}
-use Rattle.crossing.specs.declared.load.Loaded.{Loaded}
 use Rattle.outputs.specs.Outputs.{Gets}
 use Rattle.writer.specs.Writes.{Writes}
-use Rattle.writer.specs.declared.header.Written.{Written}
 use Rattle.convert.specs.Convert.{New, Converts}
-use Rattle.convert.specs.declared.convert.Converted.{Converted}
+use Rattle.convert.specs.declared.convert.Converted.{Converted as Made}
 
--- the header reader: number, place, end and tables
+-- the header reader: a refusal with its number and place, or end and tables
 unfoldable pub HeaderDetermined : Type 0
-HeaderDetermined = (s : List ℕ) (size : ℕ) (a : Admitted) (h h' : Header) → Conforms s size a h → Conforms s size a h' → h ≡ h'
+HeaderDetermined = (s : List ℕ) (size : ℕ) (a : Admitted) (h h' : Result Read Stop) → Conforms s size a h → Conforms s size a h' → h ≡ h'
 
 -- a number and an output: the exported functions that have an output, whatever is to be read
 unfoldable pub OutputsDetermined : Type 1
@@ -60,7 +59,7 @@ ElementsDetermined =
 
 -- tables that are loaded
 unfoldable pub LoadsDetermined : Type 0
-LoadsDetermined = (s : List ℕ) (r r' : Loaded) → Loads s r → Loads s r' → r ≡ r'
+LoadsDetermined = (s : List ℕ) (r r' : Result Tables Refusal) → Loads s r → Loads s r' → r ≡ r'
 
 -- the exported functions of several outputs, whose contracts (`TellsList` and those after it) are a number and this of each output
 unfoldable pub PartsDetermined : Type 1
@@ -79,8 +78,8 @@ NumbersDetermined = (n k k' : ℕ) → k ≡ n → k' ≡ n → k ≡ k'
 
 -- the writer: number, length and output
 unfoldable pub WriterDetermined : Type 0
-WriterDetermined = (out : List ℕ) (y : Step (List ℕ)) (r r' : Written) (new new' : List ℕ) → Writes out y r new → Writes out y r' new' → (r ≡ r') × (new ≡ new')
+WriterDetermined = (out : List ℕ) (y : Step (List ℕ)) (r r' : Result ℕ Refusal) (new new' : List ℕ) → Writes out y r new → Writes out y r' new' → (r ≡ r') × (new ≡ new')
 
 -- widening and narrowing: number, place, length, size and output
 unfoldable pub ConversionDetermined : Type 0
-ConversionDetermined = (out : List ℕ) (y : Step New) (r r' : Converted) (new new' : List ℕ) → Converts out y r new → Converts out y r' new' → (r ≡ r') × (new ≡ new')
+ConversionDetermined = (out : List ℕ) (y : Step New) (r r' : Result Made Stop) (new new' : List ℕ) → Converts out y r new → Converts out y r' new' → (r ≡ r') × (new ≡ new')

@@ -26,14 +26,10 @@ fn put_file(out: &mut Output, bytes: &[u8])
         classic: true,
         offset64: true,
     };
-    let h = read_header(bytes, bytes.len() as u64, both);
-    put_fields(
-        out,
-        u64::from(h.number),
-        h.place as u64,
-        h.tables.count,
-        h.end as u64,
-    );
+    match read_header(bytes, bytes.len() as u64, both) {
+        Ok(h) => put_fields(out, 0, 0, h.tables.count, h.end as u64),
+        Err(stop) => put_fields(out, stop.why.number() as u64, stop.place as u64, 0, 0),
+    }
 }
 
 // Puts the answer for a line behind the output.

@@ -1,21 +1,30 @@
 // Files in another version.
 use crate::output::show_filled;
 use crate::text::{least, show_number};
+use cdf::refusal::Stop;
 use convert::convert::{Converted, narrow, widen};
 
-fn convert(to_two: bool, prefix: &[u8], size: u64, out: &mut [u8]) -> Converted {
+fn convert(to_two: bool, prefix: &[u8], size: u64, out: &mut [u8]) -> Result<Converted, Stop> {
     if to_two {
-        return widen(prefix, size, out);
+        widen(prefix, size, out)
+    } else {
+        narrow(prefix, size, out)
     }
-    narrow(prefix, size, out)
 }
 
 fn convert_into(to_two: bool, prefix: &[u8], size: u64, out: &mut [u8]) {
-    let c = convert(to_two, prefix, size, out);
-    show_number(c.place as u64);
-    show_number(c.length);
-    show_number(c.size);
-    show_filled(c.number, out);
+    let (number, place, new) = match convert(to_two, prefix, size, out) {
+        Ok(new) => (0, 0, new),
+        Err(stop) => (
+            stop.why.number(),
+            stop.place as u64,
+            Converted { length: 0, size: 0 },
+        ),
+    };
+    show_number(place);
+    show_number(new.length);
+    show_number(new.size);
+    show_filled(number, out);
 }
 
 // The place, the new header's length, the new size, the answer's number, and every byte of an output of `room` bytes, those that stay too.

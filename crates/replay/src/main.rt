@@ -28,7 +28,7 @@ use crate::text::numbers;
 use crate::written::show_written;
 use cdf::version::Admitted;
 use grammar::tables::{Tables, blank};
-use header::reader::{Header, read_header};
+use header::reader::read_header;
 use hexlines::cut::{OpenLine, cut_line};
 use hexlines::line::{FileBytes, line_answer};
 
@@ -52,21 +52,28 @@ struct Held {
     start: u64,
 }
 
-// The header of a file of that size which starts with `prefix`.
-fn headed(set: u64, prefix: &[u8], size: u64) -> Header {
+// The tables of a file of that size which starts with `prefix`, blank ones in a refusal.
+fn headed(set: u64, prefix: &[u8], size: u64) -> Tables {
     let admitted = Admitted {
         classic: set % 2 == 1,
         offset64: set / 2 % 2 == 1,
     };
-    let h = read_header(prefix, size, admitted);
-    show_header(h);
-    h
+    match read_header(prefix, size, admitted) {
+        Ok(h) => {
+            show_header(0, 0, h.end, h.tables);
+            h.tables
+        }
+        Err(stop) => {
+            let none = blank();
+            show_header(stop.why.number(), stop.place, 0, none);
+            none
+        }
+    }
 }
 
 // The header of a file, and the window that holds all of it.
 fn opened(bytes: &[u8]) -> Held {
-    let h = headed(3, bytes, bytes.len() as u64);
-    let tables = h.tables;
+    let tables = headed(3, bytes, bytes.len() as u64);
     let size = bytes.len();
     Held {
         tables,

@@ -5,9 +5,12 @@ use grammar::tables::Tables;
 use writer::header::write_header;
 
 fn write_into(t: Tables, text: &[u8], out: &mut [u8]) {
-    let w = write_header(t, text, out);
-    show_number(w.length);
-    show_filled(w.number, out);
+    let (number, length) = match write_header(t, text, out) {
+        Ok(length) => (0, length),
+        Err(k) => (k.number(), 0),
+    };
+    show_number(length);
+    show_filled(number, out);
 }
 
 // The header's length, the answer's number, and every byte of an output of `room` bytes, those that the writer leaves too.

@@ -42,7 +42,7 @@ same-inside s t n = refl
 -- the tables that were read
 module _ (s : List ℕ) (h : Header) (r : Read s h) where
   came : Came s r.size both_versions (read_header s r.size both_versions)
-  came = accepted-came s r.size both_versions (ap (λ (x : Header). x.number) (sym r.is) ∙ r.none)
+  came = accepted-came s r.size both_versions (ap (λ (x : Header). x.number) (sym r.is) ∙ r.accepted)
 
   table_is : h.tables ≡ with_count (laid came.tree) came.count
   table_is = ap (λ (x : Header). x.tables) (r.is ∙ came.is)

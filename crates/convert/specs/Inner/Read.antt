@@ -11,8 +11,8 @@ use Rattle.header.specs.Header.{Header, read_header}
 use Rattle.header.specs.declared.reader.Header.{Header as Accepted}
 
 -- a header that the code's reader has accepted
-abbrev pub accepted : Accepted → Header
-accepted h = record { number = 0; place = 0; end = h.end; tables = h.tables }
+abbrev pub as_read : Accepted → Header
+as_read h = record { number = 0; place = 0; end = h.end; tables = h.tables }
 
 -- a result whose refusals have no place
 abbrev pub stopped : {A : Type 0} → Result A Refusal → Result A Stop
@@ -23,7 +23,7 @@ stopped (Err k) = Err (record { why = k; place = 0 })
 pub record Read (s : List ℕ) (h : Header) : Type 0 where
   pub size : ℕ
   pub is : h ≡ read_header s size both_versions
-  pub none : h.number ≡ 0
+  pub accepted : h.number ≡ 0
 
 -- tables that say another version and are the same otherwise
 abbrev pub versioned : ℕ → Tables → Tables

@@ -10,8 +10,8 @@ use lib.Seq.{take_all, length-take-le}
 use Rattle.std.proofs.lemmas.List.{take-append-drop}
 use lib.Dec.{eqb}
 use borrow.Author.Tests.{ne_eqb}
-use Rattle.header.specs.Header.{read_header}
-use Rattle.header.specs.declared.reader.Header.{Header}
+use Rattle.header.specs.Header.{Header, refusal, read_header}
+use Rattle.grammar.specs.Tables.{blank, laid}
 use Rattle.cdf.specs.Magic.{both_versions}
 use Rattle.cdf.proofs.Laws.Below.{order}
 use Rattle.hexlines.specs.Line.{LineKind, long, hex, file, kind_of}
@@ -23,10 +23,14 @@ use Rattle.hexlines.proofs.Laws.Line.{kind-kept}
 use Rattle.hexlines.proofs.Laws.Lines.{lines-open, lines-close}
 use Rattle.listing.specs.Listing.{header_text, file_text, text, answers, heading, left, listing, Turns, Runs, ends, turns, EveryInput}
 
-pub file-text : (s : List ℕ) (h : Header) (n : ℕ) → h ≡ read_header s (length s) both_versions → n ≡ h.number
-    → field_text n h.place h.tables.count h.end ≡ file_text s
+-- a header that is accepted, and a refusal
+pub file-text : (s : List ℕ) {h : Header} → h ≡ read_header s (length s) both_versions → field_text h.number h.place h.tables.count h.end ≡ file_text s
 unfolding file_text header_text
-file-text s h n e f = ap (λ (k : ℕ). field_text k h.place h.tables.count h.end) f ∙ ap header_text e
+file-text s e = ap header_text e
+
+pub refusal-text : (s : List ℕ) (k p : ℕ) {n : ℕ} → n ≡ k → refusal k p ≡ read_header s (length s) both_versions → field_text n p 0 0 ≡ file_text s
+unfolding file_text header_text refusal blank laid
+refusal-text s k p f e = ap (λ (i : ℕ). field_text i p 0 0) f ∙ ap header_text e
 
 module _ {a : LineKind} where
   pub long-text : long ≡ a → (108 ∷ 111 ∷ 110 ∷ 103 ∷ 10 ∷ []) ≡ text a
