@@ -15,7 +15,7 @@ use Rattle.grammar.specs.declared.tables.Tables.{Tables}
 use Rattle.rules.specs.Encode.{encode}
 use Rattle.order.specs.Writable.{to_write}
 use Rattle.sizes.specs.Records.{ends_hold, max_position}
-use Rattle.header.specs.Header.{Header, read_header, after_header}
+use Rattle.header.specs.Header.{HeaderAnswer as Header, read_header, after_header}
 use Rattle.writer.specs.Writes.{write_header}
 use Rattle.convert.specs.declared.convert.Converted.{Converted as Made}
 

@@ -6,7 +6,7 @@ use Rattle.cdf.specs.Refusals.{answered}
 use Rattle.cdf.specs.declared.refusal.Refusal.{Refusal}
 use Rattle.cdf.specs.declared.refusal.Stop.{Stop}
 use Rattle.cdf.proofs.Laws.Refusals.{refused, same-number, same_result}
-use Rattle.header.specs.Header.{Header, refusal, header_of}
+use Rattle.header.specs.Header.{HeaderAnswer as Header, refusal, header_of}
 use Rattle.header.specs.declared.reader.Header.{Header as Read}
 use Rattle.writer.specs.Writes.{length_told}
 use Rattle.convert.specs.Convert.{Converted, converted_of}

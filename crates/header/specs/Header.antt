@@ -13,18 +13,18 @@ use Rattle.grammar.specs.declared.tables.Tables.{Tables}
 use Rattle.header.specs.declared.reader.Header.{Header as Read}
 
 -- what is answered: the number and place of a refusal, or 0 and the header's end; and tables
-pub record Header : Type 0 where
+pub record HeaderAnswer : Type 0 where
   pub number : ℕ
   pub place : ℕ
   pub end : ℕ
   pub tables : Tables
 
 -- 01: "A header refusal returns its number, a place, and tables of version 1 with all else 0. Ends .. are 0 in any refusal"
-unfoldable pub refusal : ℕ → ℕ → Header
+unfoldable pub refusal : ℕ → ℕ → HeaderAnswer
 refusal k p = record { number = k; place = p; end = 0; tables = blank }
 
 -- the answer that a step gives; 01: "the header's end is answered beside" the tables
-unfoldable pub answer : Step Tables → Header
+unfoldable pub answer : Step Tables → HeaderAnswer
 answer (got t e) = record { number = 0; place = 0; end = e; tables = t }
 answer (stop k p) = refusal k p
 
@@ -38,7 +38,7 @@ judged s t e =
     got (with_count t n) e))))
 
 -- 01, Order: "21; then 1 to 10 from left to right .. then 11, 12, 14, 13, 15"
-unfoldable pub read_header : List ℕ → ℕ → Admitted → Header
+unfoldable pub read_header : List ℕ → ℕ → Admitted → HeaderAnswer
 read_header s size a =
     answer (
     need (leb (length s) size && leb size max_position) 21 0 (
@@ -46,11 +46,11 @@ read_header s size a =
     judged s)))
 
 -- what follows a header that is accepted, or its refusal
-abbrev pub after_header : {A : Type 0} → Header → (Header → Step A) → Step A
+abbrev pub after_header : {A : Type 0} → HeaderAnswer → (HeaderAnswer → Step A) → Step A
 after_header h f = need (eqb h.number 0) h.number h.place (f h)
 
 -- what the code's result tells
-abbrev pub header_of : Result Read Stop → Header
+abbrev pub header_of : Result Read Stop → HeaderAnswer
 header_of (Ok h) = record { number = 0; place = 0; end = h.end; tables = h.tables }
 header_of (Err k) = refusal (number k.why) k.place
 
