@@ -60,12 +60,12 @@ fn headed(set: u64, prefix: &[u8], size: u64) -> Tables {
     };
     match read_header(prefix, size, admitted) {
         Ok(h) => {
-            show_header(0, 0, h.end, h.tables);
+            show_header(0, 0, h.end, &h.tables);
             h.tables
         }
         Err(stop) => {
             let none = blank();
-            show_header(stop.why.number(), stop.place, 0, none);
+            show_header(stop.why.number(), stop.place, 0, &none);
             none
         }
     }

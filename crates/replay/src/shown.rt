@@ -1,6 +1,6 @@
 // The answer of the header reader, all of it: one line of numbers.
 use crate::text::{show_last, show_number, wide};
-use grammar::tables::{Attr, Dim, Tables, Var};
+use grammar::tables::{Attr, Tables, Var};
 
 // Whether a number was not 0, of those that must be.
 fn marked(before: u64, n: u64) -> u64 {
@@ -8,13 +8,10 @@ fn marked(before: u64, n: u64) -> u64 {
 }
 
 // How many dimensions; their rows; 0 where every row after them is zero.
-fn show_dims(t: Tables) {
+fn show_dims(t: &Tables) {
     show_number(t.ndims as u64);
-    let rows = t.dims;
     let mut past = 0;
-    let mut i = 0;
-    while i < 32 {
-        let d = rows[i];
+    for (i, d) in t.dims.iter().enumerate() {
         if i < t.ndims {
             show_number(d.name as u64);
             show_number(d.chars as u64);
@@ -25,12 +22,11 @@ fn show_dims(t: Tables) {
                 d.length as u64,
             );
         }
-        i += 1;
     }
     show_number(past);
 }
 
-fn show_attr(a: Attr) {
+fn show_attr(a: &Attr) {
     show_number(a.name as u64);
     show_number(a.chars as u64);
     show_number(a.code as u64);
@@ -38,7 +34,7 @@ fn show_attr(a: Attr) {
     show_number(a.values as u64);
 }
 
-fn attr_marked(before: u64, a: Attr) -> u64 {
+fn attr_marked(before: u64, a: &Attr) -> u64 {
     let named = marked(marked(before, a.name as u64), a.chars as u64);
     marked(
         marked(marked(named, a.code as u64), a.count as u64),
@@ -47,46 +43,36 @@ fn attr_marked(before: u64, a: Attr) -> u64 {
 }
 
 // How many attributes, and global ones among them; their rows; 0 where every row after them is zero.
-fn show_attrs(t: Tables) {
+fn show_attrs(t: &Tables) {
     show_number(t.nattrs as u64);
     show_number(t.globals as u64);
-    let rows = t.attrs;
     let mut past = 0;
-    let mut i = 0;
-    while i < 128 {
-        let a = rows[i];
+    for (i, a) in t.attrs.iter().enumerate() {
         if i < t.nattrs {
             show_attr(a);
         } else {
             past = attr_marked(past, a);
         }
-        i += 1;
     }
     show_number(past);
 }
 
 // All eight places for ids.
-fn show_ids(v: Var) {
-    let ids = v.ids;
-    let mut i = 0;
-    while i < 8 {
-        show_number(ids[i] as u64);
-        i += 1;
+fn show_ids(v: &Var) {
+    for id in &v.ids {
+        show_number(*id as u64);
     }
 }
 
-fn ids_marked(before: u64, v: Var) -> u64 {
-    let ids = v.ids;
+fn ids_marked(before: u64, v: &Var) -> u64 {
     let mut past = before;
-    let mut i = 0;
-    while i < 8 {
-        past = marked(past, ids[i] as u64);
-        i += 1;
+    for id in &v.ids {
+        past = marked(past, *id as u64);
     }
     past
 }
 
-fn show_var(v: Var) {
+fn show_var(v: &Var) {
     show_number(v.name as u64);
     show_number(v.chars as u64);
     show_number(v.rank as u64);
@@ -98,7 +84,7 @@ fn show_var(v: Var) {
     show_number(v.begin);
 }
 
-fn var_marked(before: u64, v: Var) -> u64 {
+fn var_marked(before: u64, v: &Var) -> u64 {
     let named = marked(marked(before, v.name as u64), v.chars as u64);
     let ranked = ids_marked(marked(named, v.rank as u64), v);
     let owned = marked(marked(ranked, v.first as u64), v.attrs as u64);
@@ -106,25 +92,21 @@ fn var_marked(before: u64, v: Var) -> u64 {
 }
 
 // How many variables; their rows; 0 where every row after them is zero.
-fn show_vars(t: Tables) {
+fn show_vars(t: &Tables) {
     show_number(t.nvars as u64);
-    let rows = t.vars;
     let mut past = 0;
-    let mut i = 0;
-    while i < 64 {
-        let v = rows[i];
+    for (i, v) in t.vars.iter().enumerate() {
         if i < t.nvars {
             show_var(v);
         } else {
             past = var_marked(past, v);
         }
-        i += 1;
     }
     show_last(past);
 }
 
 // Number, place and end; version, count word, record count and size; then the three lists.
-pub fn show_header(number: u8, place: usize, end: usize, t: Tables) {
+pub fn show_header(number: u8, place: usize, end: usize, t: &Tables) {
     show_number(wide(number));
     show_number(place as u64);
     show_number(end as u64);
