@@ -1,7 +1,7 @@
 // The rows of tables that are in use.
 ghost use Rattle.std.specs.Prelude.{◌≡◌, ◌≤◌, length, take};
 
-use grammar::tables::{Dim, Tables, Var};
+use grammar::tables::{Attr, Dim, Tables, Var};
 
 // The rows of the dimensions.
 pub fn dims(t: &Tables) -> &[Dim]
@@ -11,6 +11,16 @@ pub fn dims(t: &Tables) -> &[Dim]
 {
     let (dims, _) = t.dims.split_at(t.ndims);
     dims
+}
+
+// The rows of the attributes, over all lists.
+pub fn attrs(t: &Tables) -> &[Attr]
+    requires { t.now.nattrs ≤ 128 }
+    ensures rows { result.now ≡ take t.now.nattrs t.now.attrs }
+    ensures number { length result.now ≡ t.now.nattrs }
+{
+    let (attrs, _) = t.attrs.split_at(t.nattrs);
+    attrs
 }
 
 // The rows of the variables.

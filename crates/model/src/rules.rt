@@ -5,6 +5,7 @@ ghost use Rattle.model.specs.Inner.Rows.{row_ids_hold};
 ghost use Rattle.grammar.specs.Inner.Within.{Within, Shaped};
 
 use crate::names::distinct;
+use crate::rows::dims;
 use grammar::tables::{Dim, Tables, Var};
 
 fn names_hold(s: &[u8], t: &Tables) -> bool
@@ -33,12 +34,7 @@ fn one_unlimited(t: &Tables) -> bool
     requires { t.now.ndims ≤ 32 }
     ensures { result ≡ one_unlimited t.now }
 {
-    let unlimited = t
-        .dims
-        .iter()
-        .take(t.ndims)
-        .filter(|d| d.length == 0)
-        .count();
+    let unlimited = dims(t).iter().filter(|d| d.length == 0).count();
     unlimited <= 1
 }
 
@@ -64,9 +60,8 @@ pub fn ids_hold(t: &Tables) -> bool
     requires { Shaped t.now }
     ensures { result ≡ ids_hold t.now }
 {
-    let dims = &t.dims[..t.ndims];
     for v in &t.vars[..t.nvars] {
-        if !row_ids_hold(dims, v) {
+        if !row_ids_hold(&t.dims[..t.ndims], v) {
             return false;
         }
     }

@@ -6,20 +6,20 @@ ghost use Rattle.order.specs.Writable.{attr_inside};
 ghost use Rattle.order.specs.Inner.Lengths.{attrs_length, dims_length, vars_length};
 ghost use Rattle.order.specs.Inner.Tests.{attrs_tested, attributes_tested, dim_rows_tested, attr_rows_tested, var_rows_tested};
 
+use crate::bounded::Bounded;
 use crate::inside::{attr_inside, is_inside, var_inside};
 use crate::length::{attr_len, name_len, var_len};
 use crate::words::{attr_holds, dim_holds, var_holds};
-use grammar::tables::{Attr, MAX_ATTRS, Tables};
-use model::rows::{dims, vars};
+use grammar::tables::{Attr, MAX_ATTRS};
+use model::rows::{attrs, dims, vars};
 
 // The bytes of the dimensions.
-pub(crate) fn test_dims(text: &[u8], t: &Tables) -> Option<u64>
-    requires { t.now.ndims ≤ 32 }
-    ensures tested { result ≡ cond (dim_rows_tested text.now t.now) (Some (dims_length t.now)) None }
+pub(crate) fn test_dims(text: &[u8], t: Bounded) -> Option<u64>
+    ensures tested { result ≡ cond (dim_rows_tested text.now t.entry.tables.now) (Some (dims_length t.entry.tables.now)) None }
     ensures bound { IfSome result (λ n. n ≤ 1099511627776) }
 {
     let mut sum = 0;
-    for d in dims(t) {
+    for d in dims(t.tables) {
         if !is_inside(text, d.name, d.chars as usize) {
             return None;
         }
@@ -49,12 +49,12 @@ fn test_list(text: &[u8], rows: &[Attr]) -> Option<u64>
 }
 
 // The bytes of the global attributes; the others lie inside the text too.
-pub(crate) fn test_attrs(text: &[u8], t: &Tables) -> Option<u64>
-    requires { (t.now.globals ≤ t.now.nattrs) × (t.now.nattrs ≤ 128) }
-    ensures tested { result ≡ cond (attr_rows_tested text.now t.now) (Some (attrs_length t.now.attrs 0 t.now.globals)) None }
+pub(crate) fn test_attrs(text: &[u8], bounded: Bounded) -> Option<u64>
+    ensures tested { result ≡ cond (attr_rows_tested text.now bounded.entry.tables.now) (Some (attrs_length bounded.entry.tables.now.attrs 0 bounded.entry.tables.now.globals)) None }
     ensures bound { IfSome result (λ n. n ≤ 8796093022208) }
 {
-    for a in &t.attrs[..t.nattrs] {
+    let t = bounded.tables;
+    for a in attrs(t) {
         if !attr_inside(text, a) {
             return None;
         }
@@ -63,23 +63,23 @@ pub(crate) fn test_attrs(text: &[u8], t: &Tables) -> Option<u64>
 }
 
 // Whether the attributes over all lists are within the capacity.
-fn attributes_hold(t: &Tables) -> bool
-    requires { (t.now.nvars ≤ 64) × (t.now.globals ≤ 128) }
-    ensures { result ≡ attributes_tested t.now }
+fn attributes_hold(t: Bounded) -> bool
+    ensures { result ≡ attributes_tested t.entry.tables.now }
 {
-    let mut count = t.globals;
-    for v in vars(t) {
+    let mut count = t.tables.globals;
+    for v in vars(t.tables) {
         count += v.attrs as usize;
     }
     count <= MAX_ATTRS
 }
 
 // The bytes of the variables, each with its attributes; the attributes lie inside the text.
-pub(crate) fn test_vars(text: &[u8], t: &Tables) -> Option<u64>
-    requires { (t.now.nvars ≤ 64) × (t.now.globals ≤ 128) × (t.now.nattrs ≤ 128) × (all_below t.now.nattrs (attr_inside text.now t.now) ≡ true) }
-    ensures tested { result ≡ cond (var_rows_tested text.now t.now) (Some (vars_length t.now)) None }
+pub(crate) fn test_vars(text: &[u8], bounded: Bounded) -> Option<u64>
+    requires { all_below bounded.tables.now.nattrs (attr_inside text.now bounded.tables.now) ≡ true }
+    ensures tested { result ≡ cond (var_rows_tested text.now bounded.entry.tables.now) (Some (vars_length bounded.entry.tables.now)) None }
     ensures bound { IfSome result (λ n. n ≤ 1125899906842624) }
 {
+    let t = bounded.tables;
     let mut sum = 0;
     for v in vars(t) {
         if !var_inside(text, v, t.nattrs) {
@@ -92,7 +92,7 @@ pub(crate) fn test_vars(text: &[u8], t: &Tables) -> Option<u64>
         let own = test_list(text, &t.attrs[first..first + v.attrs as usize])?;
         sum += var_len(t.version, *v) + own;
     }
-    if !attributes_hold(t) {
+    if !attributes_hold(bounded) {
         return None;
     }
     Some(sum)

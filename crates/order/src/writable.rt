@@ -4,6 +4,7 @@ ghost use Rattle.order.specs.Writable.{writable};
 ghost use Rattle.order.specs.Inner.Tests.{counts_tested};
 ghost use Rattle.order.specs.Inner.Lengths.{header_length};
 
+use crate::bounded::Bounded;
 use crate::rows::{test_attrs, test_dims, test_vars};
 use crate::totals::{size_holds, sizes_hold};
 use crate::words::{open_holds, version_holds};
@@ -32,9 +33,10 @@ pub fn judged(text: &[u8], t: Tables) -> Option<u64>
     if !counts_hold(&t) {
         return None;
     }
-    let dims = test_dims(text, &t)?;
-    let globals = test_attrs(text, &t)?;
-    let vars = test_vars(text, &t)?;
+    let bounded = Bounded { tables: &t };
+    let dims = test_dims(text, bounded)?;
+    let globals = test_attrs(text, bounded)?;
+    let vars = test_vars(text, bounded)?;
     if !model_holds(text, &t) {
         return None;
     }

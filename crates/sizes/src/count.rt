@@ -1,7 +1,7 @@
 // The record count.
 #![tactic(auto, unfolding(cdf::specs::Step::test, crate::specs::Inner::Sizes::divided))]
 
-ghost use Rattle.std.specs.Prelude.{◌≡◌, ℕ, ◌<◌, ◌≤◌};
+ghost use Rattle.std.specs.Prelude.{◌≡◌, ℕ, ◌<◌};
 ghost use Rattle.cdf.specs.Refusals.{of_result};
 ghost use Rattle.cdf.specs.Step.{Step};
 ghost use Rattle.sizes.specs.Count.{has_unlimited, count_or, record_count};
@@ -11,15 +11,14 @@ ghost use Rattle.sizes.specs.Inner.Sizes.{divided, or_given, sizes_of};
 use crate::records::Sizes;
 use cdf::refusal::Refusal;
 use cdf::word::INDETERMINATE;
-use grammar::tables::Tables;
 use model::checked::Checked;
+use model::rows::dims;
 
 // Whether there is an unlimited dimension.
-fn has_unlimited(t: &Tables) -> bool
-    requires { t.now.ndims ≤ 32 }
-    ensures { result ≡ has_unlimited t.now }
+fn has_unlimited(t: Checked) -> bool
+    ensures { result ≡ has_unlimited t.entry.tables.now }
 {
-    t.dims.iter().take(t.ndims).any(|d| d.length == 0)
+    dims(t.tables).iter().any(|d| d.length == 0)
 }
 
 // The count of tables whose record size is `step`, but where it follows from the file's size; with no record variable the record size is 0.
@@ -27,7 +26,7 @@ pub fn given(t: Checked, step: u64) -> Option<u64>
     requires { step ≡ record_size t.tables.now }
     ensures { ((x : Step ℕ) → or_given result x ≡ count_or t.entry.tables.now x) × (result ≡ None → 0 < step) }
 {
-    if !has_unlimited(t.tables) {
+    if !has_unlimited(t) {
         return Some(0);
     }
     let word = t.tables.word;

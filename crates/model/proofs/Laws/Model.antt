@@ -11,7 +11,7 @@ use native.Mathlib.Nat.{zero-add}
 use Rattle.std.specs.List.{list_all, count_by, enumerate_from}
 use Rattle.std.proofs.lemmas.List.{get_or-map, get_or-take, get_or-drop, length-take-le, length-drop}
 use Rattle.std.proofs.lemmas.List.FromFn.{length-enumerate_from, get_or-enumerate_from}
-use Rattle.model.proofs.Laws.Rows.{all-same, any-same, any-rows, all-list, one-counted}
+use Rattle.model.proofs.Laws.Rows.{all-same, any-same, any-rows, all-list, one-of}
 use Rattle.model.specs.Inner.Rows.{nth_span, new_after, id_among, row_ids_hold}
 use borrow.Author.Tests.{lt-ltb, le-ltb, eq-eqb, ne_eqb}
 use Rattle.cdf.specs.Below.{all_below, any_below}
@@ -91,9 +91,9 @@ module _ {X : Type 0} (s : List ℕ) (span : X → Span) (rows : List X) (d : X)
       ∙ distinct-same s _ _ n (λ i l. get_or-map span (take m (drop first rows)) i d _ (omega arith) ∙ ap span (get_or-take m (drop first rows) i d (omega arith) ∙ get_or-drop first rows i d))
 
 -- at most one dimension is unlimited
-pub one_unlimited-by : (t : Tables) → t.ndims ≤ length t.dims → leb (count_by (λ d. eqb d.length 0) (take t.ndims t.dims)) 1 ≡ one_unlimited t
+pub one_unlimited-by : (t : Tables) {ds : List Dim} → ds ≡ take t.ndims t.dims → length ds ≡ t.ndims → leb (count_by (λ d. eqb d.length 0) ds) 1 ≡ one_unlimited t
 unfolding one_unlimited
-one_unlimited-by t h = one-counted (λ d. eqb d.length 0) t.dims no_dim t.ndims h
+one_unlimited-by t e n = one-of (λ d. eqb d.length 0) t.dims no_dim t.ndims e n
 
 -- the names of the tables, by their lists
 module _ (s : List ℕ) (t : Tables) where

@@ -28,6 +28,10 @@ module _ {X : Type 0} (n : ℕ) (xs : List X) (i : ℕ) (d : X) where
   pub row-of : {ys : List X} → ys ≡ take n xs → length ys ≡ n → i < length ys → get_or ys i d ≡ get_or xs i d
   row-of e m l = ap (λ (zs : List X). get_or zs i d) e ∙ get_or-take n xs i d (omega arith)
 
+-- there are so many rows
+pub rows-enough : {X : Type 0} (n : ℕ) (xs : List X) {ys : List X} → ys ≡ take n xs → length ys ≡ n → n ≤ length xs
+rows-enough n xs e m = omega (arith, length-take n xs, ap length e)
+
 -- where all are done
 pub rows-done : {X : Type 0} (n : ℕ) (xs : List X) (i : ℕ) → n ≤ length xs → length (take n xs) ≤ i → n ≤ i
 rows-done n xs i h l = omega (arith, length-take n xs)
@@ -54,14 +58,6 @@ module _ {X : Type 0} (p : X → Bool) (xs : List X) (d : X) where
   unfolding any_below
   any-rows zero h = refl
   any-rows (suc n) h = rw (← add-one) (list_any_more p xs n d (omega arith) ∙ ap (λ (b : Bool). b || p (get_or xs n d)) (any-rows n (omega arith)))
-
-  -- the same of rows that are those
-  module _ (n : ℕ) {ys : List X} (rows : ys ≡ take n xs) (number : length ys ≡ n) where
-    enough : n ≤ length xs
-    enough = omega (arith, length-take n xs, ap length rows)
-
-    pub all-of : list_all p ys ≡ all_below n (λ i. p (get_or xs i d))
-    all-of = ap (list_all p) rows ∙ all-rows n enough
 
   pub all-list : list_all p xs ≡ all_below (length xs) (λ i. p (get_or xs i d))
   all-list = ap (list_all p) (sym (take_all (length xs) xs (omega arith))) ∙ all-rows (length xs) (omega arith)
@@ -112,6 +108,20 @@ module _ {X : Type 0} (p : X → Bool) (xs : List X) (d : X) where
           rw (q, ← e, le-leb (Counted n) 1 (omega arith)) (le-leb (Counted (suc n)) 1 (omega arith))
       by false q a r true e = rw q (ap (λ (m : ℕ). leb m 1) (counted-same n h q) ∙ e)
       by false q a r false e = ap (λ (m : ℕ). leb m 1) (counted-same n h q) ∙ e
+
+  -- the same of rows that are those
+  module _ (n : ℕ) {ys : List X} (rows : ys ≡ take n xs) (number : length ys ≡ n) where
+    enough : n ≤ length xs
+    enough = rows-enough n xs rows number
+
+    pub all-of : list_all p ys ≡ all_below n (λ i. p (get_or xs i d))
+    all-of = ap (list_all p) rows ∙ all-rows n enough
+
+    pub any-of : list_any p ys ≡ any_below n (λ i. p (get_or xs i d))
+    any-of = ap (list_any p) rows ∙ any-rows n enough
+
+    pub one-of : leb (count_by p ys) 1 ≡ all_below n (λ i. not (p (get_or xs i d) && any_below i (λ j. p (get_or xs j d))))
+    one-of = ap (λ (zs : List X). leb (count_by p zs) 1) rows ∙ one-counted n enough
 
 -- the numbers from 0 on
 pub all-range : (p : ℕ → Bool) (n : ℕ) → list_all p (range_with_len 0 n) ≡ all_below n p

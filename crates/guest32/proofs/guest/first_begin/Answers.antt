@@ -7,11 +7,11 @@ use Rattle.guest32.proofs.guest.first_begin.Goals as goal
 use Rattle.guest32.proofs.guest.first_begin.Goals.{then-is_record, else-is_record}
 
 pub loop-v-init : goal.loop-v-init
-loop-v-init c = upto-none c.args.t.now
+loop-v-init c = upto-none c.args.t.tables.now
 
 pub loop-v-preserved : goal.loop-v-preserved
 loop-v-preserved c =
-    let t = c.args.t.now in
+    let t = c.args.t.tables.now in
     let i = c.loop-v.v-index in
     let vs = c.vars-v-items.ensures in
     let at = row-of t.nvars t.vars i no_var vs.rows vs.number c.loop-v-test.true in
@@ -22,4 +22,4 @@ loop-v-preserved c =
     ]
 
 pub returns : goal.returns
-returns c = upto_all c.args.t.now (omega (arith, c.vars-v-items.ensures.number)) c.loop-v.invariant
+returns c = upto_all c.args.t.tables.now (omega (arith, c.vars-v-items.ensures.number)) c.loop-v.invariant

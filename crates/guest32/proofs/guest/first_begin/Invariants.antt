@@ -3,4 +3,4 @@ use Rattle.guest32.proofs.Laws.Guest.{first_upto}
 use Rattle.guest32.proofs.guest.first_begin.Given as goal
 
 abbrev pub invariant-loop-v : goal.invariant-loop-v
-invariant-loop-v l = l.first ≡ first_upto l.t l.v-index
+invariant-loop-v l = l.first ≡ first_upto l.t.tables.now l.v-index

@@ -6,4 +6,4 @@ use Rattle.guest32.specs.Guest.{cut_short}
 use Rattle.guest32.proofs.guest.first_cut.Given as goal
 
 abbrev pub invariant-loop-i : goal.invariant-loop-i
-invariant-loop-i l = (k : ℕ) → k < l.i → cut_short l.t.dims (var_at l.t k) ≡ false
+invariant-loop-i l = (k : ℕ) → k < l.i → cut_short l.t.tables.now.dims (var_at l.t.tables.now k) ≡ false

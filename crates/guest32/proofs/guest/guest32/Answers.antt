@@ -12,11 +12,8 @@ use Rattle.guest32.proofs.guest.guest32.Goals as goal
 pub returns-in_default : goal.returns-in_default
 returns-in_default c = guest-tables _ (when-none _ _ (sym c.tables_hold.ensures ∙ c.in_default.is))
 
-pub first_cut-cut-requires : goal.first_cut-cut-requires
-first_cut-cut-requires c = (tables-parts _ (when-some _ _ (sym c.tables_hold.ensures ∙ c.in-Some.is)).0).shape
-
-pub invariant_of-counted : goal.invariant_of-counted
-invariant_of-counted c = let h = tables-parts _ (when-some _ _ (sym c.tables_hold.ensures ∙ c.in-Some.is)).0 in record { shaped = h.shape; ids = h.ids }
+pub invariant_of-checked : goal.invariant_of-checked
+invariant_of-checked c = let h = tables-parts _ (when-some _ _ (sym c.tables_hold.ensures ∙ c.in-Some.is)).0 in record { shaped = h.shape; ids = h.ids }
 
 pub first_foreign-requires : goal.first_foreign-requires
 first_foreign-requires c =

@@ -1,6 +1,6 @@
-use Rattle.std.proofs.Common.{rules, ◌∙◌, ap, leb, eqb, take, arith}
+use Rattle.std.proofs.Common.{rules, ◌∙◌, ap, leb, eqb}
 use borrow.Author.Tests.{tests}
-use Rattle.std.proofs.lemmas.Iterator.{YieldsList-from_slice, YieldsList-from_take}
+use Rattle.std.proofs.lemmas.Iterator.{YieldsList-from_slice}
 use Rattle.std.proofs.lemmas.Iterator.Consumers.{YieldsList-from_filter, count_from_yields_List}
 use Rattle.std.proofs.lemmas.List.Sums.{length-filter}
 use Rattle.grammar.specs.declared.tables.Dim.{Dim}
@@ -9,9 +9,9 @@ use Rattle.model.proofs.rules.one_unlimited.Goals as goal
 
 pub returns : goal.returns
 returns c =
-    let t = c.args.t.now in
+    let ds = c.dims.ensures in
     ap (λ m. leb m 1)
     (count_from_yields_List c.filter.result _ c.count-unlimited.ensures.ran
-    (YieldsList-from_filter _ (λ d. eqb d.length 0) (YieldsList-from_take t.ndims (YieldsList-from_slice t.dims cc) cc) c.filter.ensures.closure (λ x r q k. search (rules, tests)))
-    ∙ length-filter (λ (d : Dim). eqb d.length 0) (take t.ndims t.dims))
-    ∙ one_unlimited-by t (omega arith)
+    (YieldsList-from_filter _ (λ d. eqb d.length 0) (YieldsList-from_slice c.dims.result.now (cc)) c.filter.ensures.closure (λ x r q k. search (rules, tests)))
+    ∙ length-filter (λ (d : Dim). eqb d.length 0) c.dims.result.now)
+    ∙ one_unlimited-by c.args.t.now ds.rows ds.number

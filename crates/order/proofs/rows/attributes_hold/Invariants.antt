@@ -4,4 +4,4 @@ use Rattle.order.specs.Inner.Tests.{attributes_upto}
 use Rattle.order.proofs.rows.attributes_hold.Given as goal
 
 abbrev pub invariant-loop-v : goal.invariant-loop-v
-invariant-loop-v l = record { bound : l.count ≤ 128 + l.v-index * 255; upto : l.count ≡ attributes_upto l.t l.v-index }
+invariant-loop-v l = record { bound : l.count ≤ 128 + l.v-index * 255; upto : l.count ≡ attributes_upto l.t.tables.now l.v-index }

@@ -17,21 +17,21 @@ loop-d-init c = record { bound = omega arith; sum = sum-none _; inside = below_n
 pub returns-then-not-is_inside-clause-tested : goal.returns-then-not-is_inside-clause-tested
 unfolding dim_rows_tested
 returns-then-not-is_inside-clause-tested c =
-    let t = c.args.t.now in
+    let t = c.args.t.tables.now in
     let ds = c.dims-d-items.ensures in
     let at = row-of t.ndims t.dims _ no_dim ds.rows ds.number c.loop-d-test.true in
     none-when _ _ (sym (ended _ (sym (row-fails _ c.loop-d.d-index (omega (arith, ds.number)) (fails (rw at at c.is_inside.ensures) c.if-not-is_inside.true)))))
 
 pub returns-then-not-dim_holds-clause-tested : goal.returns-then-not-dim_holds-clause-tested
 returns-then-not-dim_holds-clause-tested c =
-    let t = c.args.t.now in
+    let t = c.args.t.tables.now in
     let ds = c.dims-d-items.ensures in
     let at = row-of t.ndims t.dims _ no_dim ds.rows ds.number c.loop-d-test.true in
     none-when _ _ (sym (dim-fails _ t _ (omega (arith, ds.number)) (fails (rw at at c.dim_holds.ensures) c.if-not-dim_holds.true)))
 
 pub loop-d-preserved : goal.loop-d-preserved
 loop-d-preserved c =
-    let t = c.args.t.now in
+    let t = c.args.t.tables.now in
     let l = c.loop-d.invariant in
     let ds = c.dims-d-items.ensures in
     let at = row-of t.ndims t.dims _ no_dim ds.rows ds.number c.loop-d-test.true in
@@ -45,7 +45,7 @@ loop-d-preserved c =
 pub returns-clause-tested : goal.returns-clause-tested
 unfolding dim_rows_tested dims_tested
 returns-clause-tested c =
-    let t = c.args.t.now in
+    let t = c.args.t.tables.now in
     let l = c.loop-d.invariant in
     let ds = c.dims-d-items.ensures in
     some-when _ _ (sym (passed (sym (rows-hold _ (omega (arith, ds.number)) l.inside)) (rows-hold _ (omega (arith, ds.number)) l.tested))) (dims-all t (omega (arith, ds.number)) l.sum)

@@ -12,7 +12,7 @@ abbrev pub invariant-loop-d : goal.invariant-loop-d
 invariant-loop-d l =
     record {
       bound : l.sum ≤ l.d-index * 34359738368;
-      sum : l.sum ≡ total (λ j. dim_length (dim_at l.t j)) l.d-index;
-      inside : (k : ℕ) → k < l.d-index → dim_inside l.text l.t k ≡ true;
-      tested : (k : ℕ) → k < l.d-index → dim_tested l.text (dim_at l.t k) ≡ true;
+      sum : l.sum ≡ total (λ j. dim_length (dim_at l.t.tables.now j)) l.d-index;
+      inside : (k : ℕ) → k < l.d-index → dim_inside l.text l.t.tables.now k ≡ true;
+      tested : (k : ℕ) → k < l.d-index → dim_tested l.text (dim_at l.t.tables.now k) ≡ true;
     }

@@ -1,5 +1,4 @@
 use mathlib.Core.Path.{sym, ◌∙◌}
-use native.Mathlib.Omega.{arith}
 use Rattle.grammar.proofs.Laws.Within.{within-shaped}
 use Rattle.sizes.proofs.Laws.When.{when-some, when-none, some-when, none-when}
 use Rattle.order.specs.Inner.Tests.{tested}
@@ -14,19 +13,14 @@ unfolding tested
 returns-then-not-counts_hold c =
     none-when _ _ (sym (writable-not _ _ (full-rows _ _ c.well_formed.1.0) (sym (ended _ (fails c.counts_hold.ensures c.if-not-counts_hold.true)))))
 
-pub test_dims-requires : goal.test_dims-requires
-test_dims-requires c =
-    (counts-see _ (holds c.counts_hold.ensures c.if-not-counts_hold.false)).0
+pub invariant_of-bounded : goal.invariant_of-bounded
+invariant_of-bounded c = let k = counts-see _ (holds c.counts_hold.ensures c.if-not-counts_hold.false) in record { dims = k.0; vars = k.1; attrs = k.2; globals = k.3 }
 
 pub returns-in_err-dims : goal.returns-in_err-dims
 unfolding tested
 returns-in_err-dims c =
     let counts = holds c.counts_hold.ensures c.if-not-counts_hold.false in
     c.from_residual.ensures ∙ none-when _ _ (sym (writable-not _ _ (full-rows _ _ c.well_formed.1.0) (sym (passed counts (ended _ (when-none _ _ (sym c.test_dims.ensures.tested ∙ c.in_err-dims.was)))))))
-
-pub test_attrs-requires : goal.test_attrs-requires
-test_attrs-requires c =
-    let k = counts-see _ (holds c.counts_hold.ensures c.if-not-counts_hold.false) in (k.3, k.2)
 
 pub returns-in_err-globals : goal.returns-in_err-globals
 unfolding tested
@@ -36,9 +30,7 @@ returns-in_err-globals c =
     c.from_residual-in_err-globals.ensures ∙ none-when _ _ (sym (writable-not _ _ (full-rows _ _ c.well_formed.1.0) (sym (passed counts (passed dims.0 (ended _ (when-none _ _ (sym c.test_attrs.ensures.tested ∙ c.in_err-globals.was))))))))
 
 pub test_vars-requires : goal.test_vars-requires
-test_vars-requires c =
-    let globals = when-some _ _ (sym c.test_attrs.ensures.tested ∙ c.in_ok-globals.was) in
-    let k = counts-see _ (holds c.counts_hold.ensures c.if-not-counts_hold.false) in (k.1, omega (arith, k.2, k.3), k.2, attrs-see _ _ globals.0)
+test_vars-requires c = attrs-see _ _ (when-some _ _ (sym c.test_attrs.ensures.tested ∙ c.in_ok-globals.was)).0
 
 pub returns-in_err-vars : goal.returns-in_err-vars
 unfolding tested
