@@ -1,4 +1,6 @@
 // A variable by its name, and a name by its variable's number.
+#![tactic(auto, unfolding(cdf::specs::Step::test, crate::specs::Lookup::names_inside, crate::specs::Lookup::find_var, crate::specs::Lookup::name_of))]
+
 ghost use Rattle.std.specs.Prelude.{◌≡◌, ◌+◌, ◌≤◌, length, ◌&&◌, eqb, leb};
 ghost use Rattle.cdf.specs.Refusals.{of_result};
 ghost use Rattle.items.specs.Name.{same_bytes};
@@ -17,7 +19,6 @@ fn is_inside(s: &[u8], v: &Var) -> bool
 }
 
 // Whether there are no more variables than rows, and their names lie inside the buffer.
-#[tactic(auto, unfolding(crate::specs::Lookup::names_inside))]
 fn names_inside(s: &[u8], t: &Tables) -> bool
     ensures { result ≡ names_inside s.now t.now }
 {
@@ -37,7 +38,6 @@ fn is_named(s: &[u8], v: &Var, wanted: &[u8]) -> bool
 }
 
 // The number of the first variable named `name`, or the refusal 23 or 16.
-#[tactic(auto, unfolding(cdf::specs::Step::test, crate::specs::Lookup::find_var))]
 pub fn find_var(s: &[u8], t: &Tables, name: &[u8]) -> Result<usize, Refusal>
     ensures { of_result result ≡ find_var s.now t.now name.now }
 {
@@ -53,7 +53,6 @@ pub fn find_var(s: &[u8], t: &Tables, name: &[u8]) -> Result<usize, Refusal>
 }
 
 // Where the name of the variable `i` stands, or the refusal 23 or 16.
-#[tactic(auto, unfolding(cdf::specs::Step::test, crate::specs::Lookup::name_of))]
 pub fn find_name(s: &[u8], t: &Tables, i: usize) -> Result<Span, Refusal>
     ensures { of_result result ≡ name_of s.now t.now i }
 {
