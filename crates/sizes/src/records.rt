@@ -1,6 +1,6 @@
 // Chunks, the record size, and where variables end. Sizes are exact up to the limit of rule 12 and
 // stay one above it from there on, so that no product or sum wraps.
-ghost use Rattle.std.specs.Prelude.{◌≡◌, ℕ, ◌+◌, ◌*◌, ◌≤◌, cond, get_or};
+ghost use Rattle.std.specs.Prelude.{◌≡◌, ℕ, ◌+◌, ◌*◌, ◌≤◌, cond, get_or, ltb};
 ghost use Rattle.cdf.specs.Padding.{padding};
 ghost use Rattle.items.specs.Types.{size_of};
 ghost use Rattle.grammar.specs.Tables.{no_dim};
@@ -27,11 +27,23 @@ pub struct Sizes {
     pub last: u64,
 }
 
-// The product of the number that `a` stands for and `b`.
+// The product of the number that `a` stands for and `b`; without a division where both are small. Of `saturating_mul` LLVM makes a call
+// of `__multi3` in wasm32, which is no part of the object.
 fn times(a: u64, b: u64) -> u64
     ensures { (x : ℕ) → a ≡ capped x → result ≡ capped (x * b) }
 {
-    a.saturating_mul(b).min(MAX_CHUNK + 1)
+    if a < 0x1000_0000 {
+        if b < 0x1_0000_0000 {
+            return a * b;
+        }
+    }
+    if b == 0 {
+        return 0;
+    }
+    if MAX_CHUNK / b < a {
+        return MAX_CHUNK + 1;
+    }
+    a * b
 }
 
 // The length of a dimension; past the rows 0.
@@ -131,13 +143,22 @@ pub fn measure(t: &Tables) -> Option<Sizes>
     Some(z)
 }
 
-// Rule 15, where rule 12 holds, for `n` records. A number that saturates is above the limit.
+// Whether `steps` records of `step` bytes take more than `room` bytes; by a division, as in `times`.
+fn passes(steps: u64, step: u64, room: u64) -> bool
+    ensures { result ≡ ltb room (steps * step) }
+{
+    if step == 0 {
+        return false;
+    }
+    room / step < steps
+}
+
+// Rule 15, where rule 12 holds, for `n` records.
 pub fn ends_hold(z: Sizes, n: u64) -> bool
     ensures { result ≡ ends_in z n }
 {
     if n == 0 {
         return z.fixed;
     }
-    let end = (n - 1).saturating_mul(z.step).saturating_add(z.last);
-    z.fixed && end <= MAX_POSITION
+    z.fixed && z.last <= MAX_POSITION && !passes(n - 1, z.step, MAX_POSITION - z.last)
 }
