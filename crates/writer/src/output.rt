@@ -4,10 +4,33 @@ ghost use Rattle.cdf.specs.Form.{form};
 ghost use Rattle.items.specs.Name.{part};
 ghost use Rattle.rules.specs.Rules.{spelled};
 ghost use Rattle.rules.specs.Encode.{padded_out, name_bytes};
-ghost use Rattle.writer.specs.Inner.Put.{Adds, Room};
+ghost use Rattle.writer.specs.Inner.Put.{Put, Adds, Room};
 ghost use Rattle.writer.specs.Inner.Parts.{start_bytes};
 
 use cdf::padding::compute_padding_size;
+
+// Puts `more` at a place. A loop, and not `copy_from_slice`, of which LLVM makes a call with a length of 64 bits, which is not valid in wasm32.
+fn copy(bytes: &mut [u8], at: usize, more: &[u8])
+    requires { at + length more.now ≤ length bytes.old }
+    ensures { Put bytes.old at more.now bytes.new (at + length more.now) }
+{
+    for i in 0..more.len() {
+        bytes[at + i] = more[i];
+    }
+}
+
+// The `n` zeros of a padding: its first byte, one in the middle, its last, which for so few are all; a loop or `fill` would become a call.
+fn pad(bytes: &mut [u8], at: usize, n: usize)
+    requires { (n ≤ 3) × (at + n ≤ length bytes.old) }
+    ensures { Put bytes.old at (replicate n 0) bytes.new (at + n) }
+{
+    if n == 0 {
+        return;
+    }
+    bytes[at] = 0;
+    bytes[at + n / 2] = 0;
+    bytes[at + n - 1] = 0;
+}
 
 // The next byte goes to `at`.
 #[derive(Drop)]
@@ -22,23 +45,18 @@ impl<'a> Output<'a> {
         ensures same { self.new.bytes.ghost_name ≡ self.old.bytes.ghost_name }
         ensures put { Adds self.old more.now self.new }
     {
-        let at = self.at;
-        let end = at + more.len();
-        let bytes = &mut *self.bytes;
-        bytes[at..end].copy_from_slice(more);
-        self.at = end;
+        copy(&mut *self.bytes, self.at, more);
+        self.at += more.len();
     }
 
+    // The zeros of a padding.
     fn zeros(&mut self, n: usize)
-        requires { self.old.at + n ≤ length self.old.bytes.now }
+        requires { (n ≤ 3) × (self.old.at + n ≤ length self.old.bytes.now) }
         ensures same { self.new.bytes.ghost_name ≡ self.old.bytes.ghost_name }
         ensures put { Adds self.old (replicate n 0) self.new }
     {
-        let at = self.at;
-        let end = at + n;
-        let bytes = &mut *self.bytes;
-        bytes[at..end].fill(0);
-        self.at = end;
+        pad(&mut *self.bytes, self.at, n);
+        self.at += n;
     }
 
     // A word of four bytes, the most significant first.
@@ -80,7 +98,7 @@ impl<'a> Output<'a> {
         ensures put { Adds self.old (start_bytes tag n) self.new }
     {
         if n == 0 {
-            self.zeros(8);
+            self.put(&[0; 8]);
         } else {
             self.word(tag);
             self.word(n as u64);

@@ -2,11 +2,12 @@
 use Prim.Native.Nat.{ℕ, zero, suc, ◌+◌, ◌-◌, ◌/◌, ◌%◌, ◌≤◌, ◌<◌}
 use native.Mathlib.Omega.{arith}
 use native.Mathlib.Nat.{add-zero}
+use native.Mathlib.Numerals.{add-one}
 use mathlib.Core.Path.{◌≡◌, refl, sym, ap, subst, ◌∙◌}
 use mathlib.Core.List.{List, [], ◌∷◌, ◌++◌, append_assoc}
 use Rattle.std.specs.Int.{to_be_bytes, byte_at, w64}
-use lib.ListN.{length, take, drop, replicate, length-append, length-replicate, take-append-drop}
-use lib.Seq.{take_at, drop_at, drop-drop, length-take-le}
+use lib.ListN.{length, take, drop, set, get_or, replicate, length-append, length-set, length-replicate, take-append-drop}
+use lib.Seq.{set-set, take_all, take-suc, set_split, take_at, drop_at, drop-drop, length-take-le}
 use borrow.Author.Tests.{ne_eqb}
 use Rattle.cdf.specs.Form.{form}
 use Rattle.cdf.specs.Padding.{padding}
@@ -48,6 +49,78 @@ put_then {s} {t} {u} {x} {y} {i} {j} {k} h f g =
 
 pub put_is : {s t x y : List ℕ} {i j : ℕ} → Put s i x t j → x ≡ y → Put s i y t j
 put_is {s} {t} {x} {y} {i} {j} f e = subst (λ (z : List ℕ). Put s i z t j) e f
+
+-- a byte, and the bytes of a list, one after the other
+pub put_byte : (s : List ℕ) (at c : ℕ) → at < length s → Put s at (c ∷ []) (set s at c) (at + 1)
+put_byte s at c h =
+    record { place = refl; long = length-set s at c; bytes = set_split s at c h ∙ ap (λ (n : ℕ). take at s ++ (c ∷ drop n s)) (sym (add-one at)) }
+
+pub put-none : (s more : List ℕ) (at : ℕ) → Put s at (take 0 more) s (at + 0)
+put-none s more at = subst (λ (k : ℕ). Put s at [] s k) (sym (add-zero at)) (put-nothing s at)
+
+pub put-more : (s t more : List ℕ) (at i c : ℕ) → i < length more → at + length more ≤ length s → c ≡ get_or more i 0
+    → Put s at (take i more) t (at + i) → Put s at (take (i + 1) more) (set t (at + i) c) (at + (i + 1))
+put-more s t more at i c l room e g =
+    let a : take i more ++ (c ∷ []) ≡ take (i + 1) more = rw (add-one, take-suc more i 0 l, e) in
+    let n = length-take-le i more (omega arith) in
+    let p : at + i + 1 ≡ at + (i + 1) = omega arith in
+    let same = g.long in
+    subst (λ (k : ℕ). Put s at (take (i + 1) more) (set t (at + i) c) k) p (put_is (put_then (omega arith) g (put_byte t (at + i) c (omega arith))) a)
+
+pub put_all : (s t more : List ℕ) (at i : ℕ) → i ≡ length more → Put s at (take i more) t (at + i) → Put s at more t (at + length more)
+put_all s t more at i e g = subst (λ (k : ℕ). Put s at more t (at + k)) e (put_is g (take_all i more (omega (arith, e))))
+
+-- at most three zeros: the first, one in the middle, the last
+zeros-more : (n : ℕ) → ◌≡◌ {A = List ℕ} (replicate n 0 ++ (0 ∷ [])) (replicate (n + 1) 0)
+zeros-more n = more n ∙ ap (λ (k : ℕ). replicate k 0) (sym (add-one n))
+  where
+    more : (n : ℕ) → ◌≡◌ {A = List ℕ} (replicate n 0 ++ (0 ∷ [])) (replicate (suc n) 0)
+    more zero = refl
+    more (suc n) = ap (λ (l : List ℕ). 0 ∷ l) (more n)
+
+put-zero : (s t : List ℕ) (at i : ℕ) → at + i < length s → Put s at (replicate i 0) t (at + i) → Put s at (replicate (i + 1) 0) (set t (at + i) 0) (at + (i + 1))
+put-zero s t at i room g =
+    let n = length-replicate {A = ℕ} i 0 in
+    let p : at + i + 1 ≡ at + (i + 1) = omega arith in
+    let same = g.long in
+    subst (λ (k : ℕ). Put s at (replicate (i + 1) 0) (set t (at + i) 0) k) p (put_is (put_then (omega arith) g (put_byte t (at + i) 0 (omega arith))) (zeros-more i))
+
+module _ (s : List ℕ) (at : ℕ) where
+  zero_one : at + 1 ≤ length s → Put s at (replicate 1 0) (set s at 0) (at + 1)
+  zero_one h = put_byte s at 0 (omega arith)
+
+  zero-two : at + 2 ≤ length s → Put s at (replicate 2 0) (set (set s at 0) (at + 1) 0) (at + 2)
+  zero-two h = put-zero s (set s at 0) at 1 (omega arith) (zero_one (omega arith))
+
+  zero-three : at + 3 ≤ length s → Put s at (replicate 3 0) (set (set (set s at 0) (at + 1) 0) (at + 2) 0) (at + 3)
+  zero-three h = put-zero s (set (set s at 0) (at + 1) 0) at 2 (omega arith) (zero-two (omega arith))
+
+  pub pad-none : (n : ℕ) → n ≡ 0 → Put s at (replicate n 0) s (at + n)
+  pad-none n e = subst (λ (k : ℕ). Put s at (replicate k 0) s (at + k)) (sym e) (put-none s [] at)
+
+  -- at the places i and j
+  pads : (n i j : ℕ) → i ≡ n / 2 → j + 1 ≡ n → n ≤ 3 → at + n ≤ length s → Put s at (replicate n 0) (set (set (set s at 0) (at + i) 0) (at + j) 0) (at + n)
+  pads zero i j e f l h = absurd (omega arith)
+  pads (suc zero) i j e f l h =
+      let a : at + i ≡ at = omega arith in
+      let b : at + j ≡ at = omega arith in
+      let q : set (set (set s at 0) at 0) at 0 ≡ set s at 0 = set-set (set s at 0) at 0 0 ∙ set-set s at 0 0 in
+      rw (a, b, q) (zero_one h)
+  pads (suc (suc zero)) i j e f l h =
+      let a : i ≡ 1 = omega arith in
+      let b : j ≡ 1 = omega arith in
+      rw (a, b, set-set (set s at 0) (at + 1) 0 0) (zero-two h)
+  pads (suc (suc (suc zero))) i j e f l h =
+      let a : i ≡ 1 = omega arith in
+      let b : j ≡ 2 = omega arith in
+      rw (a, b) (zero-three h)
+  pads (suc (suc (suc (suc n)))) i j e f l h = absurd (omega arith)
+
+  pub pad-some : (n : ℕ) → (n ≡ 0 → ⊥) → n ≤ 3 → at + n ≤ length s → Put s at (replicate n 0) (set (set (set s at 0) (at + n / 2) 0) (at + n - 1) 0) (at + n)
+  pad-some n z l h =
+      let k : n - 1 + 1 ≡ n = omega (arith, z) in
+      let e : at + (n - 1) ≡ at + n - 1 = omega arith in
+      subst (λ (m : ℕ). Put s at (replicate n 0) (set (set (set s at 0) (at + n / 2) 0) m 0) (at + n)) e (pads n (n / 2) (n - 1) refl k l h)
 
 -- at the start of an output
 pub put-start : {s t x : List ℕ} {r : ℕ} → Put s 0 x t r → t ≡ x ++ drop (length x) s
