@@ -1,5 +1,6 @@
 // Names of one list: none empty, none twice.
 ghost use Rattle.std.specs.Prelude.{◌≡◌, ◌+◌, length, get_or};
+ghost use Rattle.items.specs.Name.{same_bytes};
 ghost use Rattle.model.specs.Model.{same_name, distinct};
 ghost use Rattle.model.specs.Inner.Rows.{nth_span, new_after};
 ghost use Rattle.model.specs.declared.names.Span.{Span};
@@ -62,11 +63,23 @@ fn byte_at(s: &[u8], at: usize, i: usize) -> u8
     if place < s.len() { s[place] } else { 0 }
 }
 
+// Whether the `n` bytes from `a` and from `b` are the same: as parts of the text where they lie inside it, as those of a header do.
+fn same_bytes(s: &[u8], a: usize, b: usize, n: usize) -> bool
+    ensures { result ≡ same_bytes s.now a s.now b n }
+{
+    let len = s.len();
+    if a <= len && n <= len - a && b <= len && n <= len - b {
+        return s[a..a + n] == s[b..b + n];
+    }
+    (0..n).all(|i| byte_at(s, a, i) == byte_at(s, b, i))
+}
+
 // Whether two names have the same bytes.
+#[tactic(auto, unfolding(crate::specs::Model::same_name))]
 fn same_name(s: &[u8], a: Span, b: Span) -> bool
     ensures { result ≡ same_name s.now a b }
 {
-    a.chars == b.chars && (0..a.chars as usize).all(|i| byte_at(s, a.at, i) == byte_at(s, b.at, i))
+    a.chars == b.chars && same_bytes(s, a.at, b.at, a.chars as usize)
 }
 
 // Whether a name is not empty and none of the rows before it has it.

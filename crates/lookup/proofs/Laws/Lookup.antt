@@ -7,41 +7,21 @@ use mathlib.Core.Bool.{Bool, true, false, ◌&&◌}
 use mathlib.Core.List.{List}
 use lib.ListN.{length, get_or, take, drop}
 use lib.Dec.{leb, eqb}
-use borrow.Author.Tests.{lt-ltb, le-ltb, le-leb, lt-leb, eq-eqb, leb-true, ltb-true, eqb-true}
+use borrow.Author.Tests.{lt-ltb, le-ltb, le-leb, lt-leb, leb-true, ltb-true}
 use Rattle.cdf.specs.Step.{got, stop}
 use Rattle.cdf.specs.Below.{all_below, first_where}
 use Rattle.cdf.proofs.Laws.Step.{by-true, by-false, test-came, got_same}
 use Rattle.std.specs.Cmp.Lexicographic.{pointwise}
-use Rattle.std.proofs.lemmas.Slice.Eq.{bytes_eq-Decides}
-use Rattle.std.proofs.lemmas.Grind.{same_number_lists}
 use Rattle.std.proofs.lemmas.List.{get_or-take, get_or-drop, length-take-le, length-drop}
 use Rattle.model.proofs.Laws.Rows.{all-same}
+use Rattle.model.proofs.Laws.Names.{same-lists}
 use Rattle.model.specs.declared.names.Span.{Span}
 use Rattle.model.specs.Model.{var_names}
 use Rattle.items.specs.Name.{same_bytes}
-use Rattle.cdf.proofs.Laws.Below.{both, all_hold, holds_at, first-none, first-is}
+use Rattle.cdf.proofs.Laws.Below.{both, holds_at, first-none, first-is}
 use Rattle.grammar.specs.Tables.{max_vars, var_at}
 use Rattle.grammar.specs.declared.tables.Tables.{Tables}
 use Rattle.lookup.specs.Lookup.{names_inside, is_named, first_named, find_var, name_of}
-
--- two lists of bytes are the same where their lengths are and each byte is
-same-lists : (xs ys : List ℕ) → pointwise eqb xs ys ≡ (eqb (length xs) (length ys) && all_below (length xs) (λ k. eqb (get_or xs k 0) (get_or ys k 0)))
-same-lists xs ys = same _ _ forth back
-  where
-    same : (a b : Bool) → (a ≡ true → b ≡ true) → (b ≡ true → a ≡ true) → a ≡ b
-    same true b f g = sym (f refl)
-    same false true f g = g refl
-    same false false f g = refl
-
-    forth : pointwise eqb xs ys ≡ true → (eqb (length xs) (length ys) && all_below (length xs) (λ k. eqb (get_or xs k 0) (get_or ys k 0))) ≡ true
-    forth e =
-        let q = (bytes_eq-Decides xs ys).0 e in
-        rw (eq-eqb _ _ (ap length q)) (all_hold _ (length xs) (λ k l. eq-eqb _ _ (ap (λ (zs : List ℕ). get_or zs k 0) q)))
-
-    back : (eqb (length xs) (length ys) && all_below (length xs) (λ k. eqb (get_or xs k 0) (get_or ys k 0))) ≡ true → pointwise eqb xs ys ≡ true
-    back e =
-        let p = both _ _ e in
-        (bytes_eq-Decides xs ys).1 (same_number_lists xs ys (eqb-true _ _ p.0) (λ k l. eqb-true _ _ (holds_at _ (length xs) k p.1 l)))
 
 -- the n bytes of s from a place are those that are looked for
 pub same-part : (s : List ℕ) (at n : ℕ) {m : ℕ} (wanted : List ℕ) → m ≡ n → at + n ≤ length s → pointwise eqb (take m (drop at s)) wanted ≡ (eqb n (length wanted) && same_bytes s at wanted 0 n)
