@@ -1,5 +1,5 @@
 // Cutting lines out of blocks of text.
-ghost use Rattle.std.specs.Prelude.{◌≡◌, ◌++◌, take, eqb};
+ghost use Rattle.std.specs.Prelude.{◌≡◌, ◌≤◌, ◌++◌, take, eqb};
 ghost use Rattle.std.specs.List.{position};
 ghost use Rattle.hexlines.specs.Lines.{newline};
 ghost use Rattle.hexlines.specs.Inner.Cut.{Cuts, kept};
@@ -13,10 +13,12 @@ pub const KEPT: usize = 16385;
 pub type OpenLine = ArrayVec<u8, KEPT>;
 
 // Adds characters to the line; what is above `KEPT` is dropped.
-fn keep(line: &mut OpenLine, more: &[u8])
+fn keep<const N: usize>(line: &mut ArrayVec<u8, N>, more: &[u8])
+    requires { kept ≤ N }
     ensures { line.new.items ≡ take kept (line.old.items ++ more.now) }
 {
-    let fits = more.len().min(line.remaining_capacity());
+    line.truncate(KEPT);
+    let fits = more.len().min(KEPT - line.len());
     line.try_extend_from_slice(&more[..fits]).unwrap();
 }
 
@@ -27,7 +29,8 @@ fn line_end(block: &[u8]) -> Option<usize>
 }
 
 // Adds to the line the characters of the block up to its first line end, and answers what stands behind that; or all of them, and none where no line ends.
-pub fn cut_line<'a>(block: &'a [u8], line: &mut OpenLine) -> Option<&'a [u8]>
+pub fn cut_line<'a, const N: usize>(block: &'a [u8], line: &mut ArrayVec<u8, N>) -> Option<&'a [u8]>
+    requires { kept ≤ N }
     ensures { Cuts block.now line.old.items line.new.items result }
 {
     match line_end(block) {

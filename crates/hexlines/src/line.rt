@@ -23,8 +23,8 @@ pub enum NoFile {
 }
 
 // The bytes that the digits spell, two a byte; none where a character is no digit.
-fn decode(text: &[u8], file: &mut FileBytes) -> Option<()>
-    requires { length text.now ≤ 16384 }
+fn decode<const N: usize>(text: &[u8], file: &mut ArrayVec<u8, N>) -> Option<()>
+    requires { (length text.now ≤ 16384) × (8192 ≤ N) }
     ensures value { IsSome result ↔ IsTrue (are_digits (length text.now / 2 * 2) text.now) }
     ensures file_after { OnSome result (file.new.items ≡ tab (pair text.now) (length text.now / 2)) }
 {
@@ -38,7 +38,8 @@ fn decode(text: &[u8], file: &mut FileBytes) -> Option<()>
 }
 
 // The bytes of the file that the line `text` spells, or why it spells none.
-pub fn line_answer(text: &[u8], file: &mut FileBytes) -> Result<(), NoFile>
+pub fn line_answer<const N: usize>(text: &[u8], file: &mut ArrayVec<u8, N>) -> Result<(), NoFile>
+    requires { 8192 ≤ N }
     ensures { of_line result file.new.items ≡ kind_of text.now }
 {
     if MAX_LINE < text.len() {

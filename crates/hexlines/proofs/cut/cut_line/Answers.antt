@@ -4,13 +4,13 @@ use Rattle.hexlines.proofs.Laws.Cut.{before-position, pos_le}
 use Rattle.hexlines.proofs.cut.cut_line.Goals as goal
 
 pub returns-in-Some : goal.returns-in-Some
-returns-in-Some c =
+returns-in-Some g c =
     let e = c.line_end.ensures in
     let b = before-position c.args.block.now in
     record { closed = grind (arith, common_steps, e, b, c.in-Some.is); unclosed = search rules; line = grind (arith, common_steps, e, b, c.in-Some.is, c.keep.ensures) }
 
 pub returns-in-None : goal.returns-in-None
-returns-in-None c =
+returns-in-None g c =
     let e = c.line_end.ensures in
     let b = before-position c.args.block.now in
     let h = pos_le c.args.block.now in
