@@ -1,4 +1,5 @@
--- The proofs of the statements in specs/, under the same file names.
+-- The proofs of the statements in specs/, under the same file names, and laws that the documents name.
+pub mod Laws
 pub mod Determined
 pub mod Examples
 pub mod Versions
