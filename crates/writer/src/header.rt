@@ -6,6 +6,7 @@ ghost use Rattle.writer.specs.Writes.{write_header, Writes};
 
 use crate::output::Output;
 use crate::rows::put_list;
+use cdf::list::{ATTRIBUTE_TAG, DIMENSION_TAG, VARIABLE_TAG};
 use cdf::refusal::Refusal;
 use grammar::tables::Tables;
 use order::writable::judged;
@@ -22,9 +23,9 @@ fn put_header(out: &mut Output, text: &[u8], t: &Tables)
 {
     out.word(MAGIC + t.version as u64);
     out.word(t.word);
-    put_list(out, 10, text, t, &t.dims[..t.ndims]);
-    put_list(out, 12, text, t, &t.attrs[..t.globals]);
-    put_list(out, 11, text, t, &t.vars[..t.nvars]);
+    put_list(out, DIMENSION_TAG, text, t, &t.dims[..t.ndims]);
+    put_list(out, ATTRIBUTE_TAG, text, t, &t.attrs[..t.globals]);
+    put_list(out, VARIABLE_TAG, text, t, &t.vars[..t.nvars]);
 }
 
 // The same at an output's start.

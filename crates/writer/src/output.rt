@@ -91,16 +91,15 @@ impl<'a> Output<'a> {
     }
 
     // How a list of `n` items starts: absent, or its tag and their number.
-    pub(crate) fn start(&mut self, tag: u64, n: usize)
-        requires tag { tag < 256 }
-        requires room { self.old.at + 8 ≤ length self.old.bytes.now }
+    pub(crate) fn start(&mut self, tag: u8, n: usize)
+        requires { self.old.at + 8 ≤ length self.old.bytes.now }
         ensures same { self.new.bytes.ghost_name ≡ self.old.bytes.ghost_name }
         ensures put { Adds self.old (start_bytes tag n) self.new }
     {
         if n == 0 {
             self.put(&[0; 8]);
         } else {
-            self.word(tag);
+            self.word(tag as u64);
             self.word(n as u64);
         }
     }

@@ -8,6 +8,7 @@ ghost use Rattle.writer.specs.Inner.Put.{Adds, Room};
 ghost use Rattle.writer.specs.Inner.Parts.{start_bytes, dim_out, attr_out, shape_out, tail_out, var_out, AttrIn, VarIn};
 
 use crate::output::Output;
+use cdf::list::ATTRIBUTE_TAG;
 use grammar::tables::{Attr, Dim, Tables, Var};
 use items::types::DataType;
 
@@ -38,8 +39,7 @@ fn put_each<I: Item>(out: &mut Output, text: &[u8], t: &Tables, items: &[I])
 }
 
 // A list of items: absent, or its tag, their number and the items.
-pub(crate) fn put_list<I: Item>(out: &mut Output, tag: u64, text: &[u8], t: &Tables, items: &[I])
-    requires tag { tag < 256 }
+pub(crate) fn put_list<I: Item>(out: &mut Output, tag: u8, text: &[u8], t: &Tables, items: &[I])
     requires there { (i : ℕ) (x : _) → i < length items.now → x ≡ get_or items.now i x → I.IsThere text.now t.now x }
     requires room { Room out.old (start_bytes tag (length items.now) ++ each (I.bytes text.now t.now) items.now) }
     ensures same { out.new.bytes.ghost_name ≡ out.old.bytes.ghost_name }
@@ -128,7 +128,7 @@ impl Item for Var {
         let first = self.first as usize;
         let end = first + self.attrs as usize;
         put_shape(out, text, t, self);
-        put_list(out, 12, text, t, &t.attrs[first..end]);
+        put_list(out, ATTRIBUTE_TAG, text, t, &t.attrs[first..end]);
         put_tail(out, t.version, self);
     }
 }

@@ -74,9 +74,9 @@ module _ (s : List ℕ) where
     unfolding var_out
     put-var room f g h = put_three (shape_out s v) (attrs_out s xs v.first v.attrs) (tail_out version v) room f g h
 
--- the first n of some rows, as the code cuts them out
-pub front-out : {A : Type 0} (g : A → List ℕ) (tag : ℕ) (xs : List A) (n k : ℕ) → k ≡ n → n ≤ length xs → start_bytes tag (length (take k xs)) ++ each g (take k xs) ≡ start_bytes tag n ++ each g (take n xs)
-front-out g tag xs n k e h = let l = length-take-le n xs h in rw (e, l)
+-- the first n of the rows of an array, as the code cuts them out
+pub front-out : {A : Type 0} (g : A → List ℕ) (tag : ℕ) (xs : List A) {n room : ℕ} → n ≤ room → length xs ≡ room → start_bytes tag (length (take n xs)) ++ each g (take n xs) ≡ start_bytes tag n ++ each g (take n xs)
+front-out g tag xs {n} h e = rw (length-take-le n xs (omega arith))
 
 -- CDF and a version as a word
 spelled-magic : (v : ℕ) → v < 256 → spelled 4 (1128547840 + v) ≡ 0x43 ∷ 0x44 ∷ 0x46 ∷ v ∷ []

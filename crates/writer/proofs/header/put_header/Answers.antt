@@ -1,7 +1,7 @@
 use native.Mathlib.Omega.{arith}
 use borrow.Author.Rules.{rules}
 use Prim.Native.Nat.{◌+◌, ◌≤◌, ◌<◌}
-use mathlib.Core.Path.{◌≡◌, refl, sym, subst}
+use mathlib.Core.Path.{◌≡◌, sym, subst}
 use lib.ListN.{length}
 use lib.Seq.{length-take-le}
 use Rattle.grammar.specs.Tables.{no_dim, no_attr, no_var}
@@ -34,10 +34,8 @@ put_list-requires-clause-room c =
     let t = c.args.t.now in
     let p = c.word.ensures.put in
     let q = c.word-2.ensures.put in
-    let l : length t.dims ≡ 32 = search rules in
-    let n = c.requires.there.ndims in
     let r = dims-room s t _ c.requires.room p.place q.place in
-    rw (front-out (dim_out s) 10 t.dims t.ndims _ refl (omega arith)) (let h : c.word-2.new.self.at + length (dims_part s t) ≤ length c.word-2.new.self.bytes.now = omega (arith, p.long, q.long) in h)
+    rw (front-out (dim_out s) 10 t.dims c.requires.there.ndims (search rules)) (let h : c.word-2.new.self.at + length (dims_part s t) ≤ length c.word-2.new.self.bytes.now = omega (arith, p.long, q.long) in h)
 
 pub put_list-requires-2-clause-there : goal.put_list-requires-2-clause-there
 put_list-requires-2-clause-there c i x h e =
@@ -55,13 +53,9 @@ put_list-requires-2-clause-room c =
     let t = c.args.t.now in
     let p = c.word.ensures.put in
     let q = c.word-2.ensures.put in
-    let l0 : length t.dims ≡ 32 = search rules in
-    let n0 = c.requires.there.ndims in
-    let a0 = put_is c.put_list.ensures.put (front-out (dim_out s) 10 t.dims t.ndims _ refl (omega arith)) in
-    let l : length t.attrs ≡ 128 = search rules in
-    let n = c.requires.there.nglobals in
+    let a0 = put_is c.put_list.ensures.put (front-out (dim_out s) 10 t.dims c.requires.there.ndims (search rules)) in
     let r = globals-room s t _ c.requires.room p.place q.place a0.place in
-    rw (front-out (attr_out s) 12 t.attrs t.globals _ refl (omega arith)) (let h : c.put_list.new.out.at + length (globals_part s t) ≤ length c.put_list.new.out.bytes.now = omega (arith, p.long, q.long, a0.long) in h)
+    rw (front-out (attr_out s) 12 t.attrs c.requires.there.nglobals (search rules)) (let h : c.put_list.new.out.at + length (globals_part s t) ≤ length c.put_list.new.out.bytes.now = omega (arith, p.long, q.long, a0.long) in h)
 
 pub put_list-requires-3-clause-there : goal.put_list-requires-3-clause-there
 put_list-requires-3-clause-there c i x h e =
@@ -79,16 +73,10 @@ put_list-requires-3-clause-room c =
     let t = c.args.t.now in
     let p = c.word.ensures.put in
     let q = c.word-2.ensures.put in
-    let l0 : length t.dims ≡ 32 = search rules in
-    let n0 = c.requires.there.ndims in
-    let a0 = put_is c.put_list.ensures.put (front-out (dim_out s) 10 t.dims t.ndims _ refl (omega arith)) in
-    let l1 : length t.attrs ≡ 128 = search rules in
-    let n1 = c.requires.there.nglobals in
-    let a1 = put_is c.put_list-2.ensures.put (front-out (attr_out s) 12 t.attrs t.globals _ refl (omega arith)) in
-    let l : length t.vars ≡ 64 = search rules in
-    let n = c.requires.there.nvars in
+    let a0 = put_is c.put_list.ensures.put (front-out (dim_out s) 10 t.dims c.requires.there.ndims (search rules)) in
+    let a1 = put_is c.put_list-2.ensures.put (front-out (attr_out s) 12 t.attrs c.requires.there.nglobals (search rules)) in
     let r = vars-room s t _ c.requires.room p.place q.place a0.place a1.place in
-    rw (front-out (var_out s t.version t.attrs) 11 t.vars t.nvars _ refl (omega arith)) (let h : c.put_list-2.new.out.at + length (vars_part s t) ≤ length c.put_list-2.new.out.bytes.now = omega (arith, p.long, q.long, a0.long, a1.long) in h)
+    rw (front-out (var_out s t.version t.attrs) 11 t.vars c.requires.there.nvars (search rules)) (let h : c.put_list-2.new.out.at + length (vars_part s t) ≤ length c.put_list-2.new.out.bytes.now = omega (arith, p.long, q.long, a0.long, a1.long) in h)
 
 pub returns-clause-put : goal.returns-clause-put
 returns-clause-put c =
@@ -96,13 +84,7 @@ returns-clause-put c =
     let t = c.args.t.now in
     let p = c.word.ensures.put in
     let q = c.word-2.ensures.put in
-    let l0 : length t.dims ≡ 32 = search rules in
-    let n0 = c.requires.there.ndims in
-    let a0 = put_is c.put_list.ensures.put (front-out (dim_out s) 10 t.dims t.ndims _ refl (omega arith)) in
-    let l1 : length t.attrs ≡ 128 = search rules in
-    let n1 = c.requires.there.nglobals in
-    let a1 = put_is c.put_list-2.ensures.put (front-out (attr_out s) 12 t.attrs t.globals _ refl (omega arith)) in
-    let l2 : length t.vars ≡ 64 = search rules in
-    let n2 = c.requires.there.nvars in
-    let a2 = put_is c.put_list-3.ensures.put (front-out (var_out s t.version t.attrs) 11 t.vars t.nvars _ refl (omega arith)) in
+    let a0 = put_is c.put_list.ensures.put (front-out (dim_out s) 10 t.dims c.requires.there.ndims (search rules)) in
+    let a1 = put_is c.put_list-2.ensures.put (front-out (attr_out s) 12 t.attrs c.requires.there.nglobals (search rules)) in
+    let a2 = put_is c.put_list-3.ensures.put (front-out (var_out s t.version t.attrs) 11 t.vars c.requires.there.nvars (search rules)) in
     put_whole s t (search rules) c.requires.room p q a0 a1 a2

@@ -10,4 +10,4 @@ pub word-requires-else-n-eq0 : goal.word-requires-else-n-eq0
 word-requires-else-n-eq0 c = let l = length-spelled 4 c.args.tag in let p = c.word.ensures.put in omega arith
 
 pub returns-else-n-eq0-clause-put : goal.returns-else-n-eq0-clause-put
-returns-else-n-eq0-clause-put c = put-tagged _ _ c.requires.tag (omega (arith, c.if-n-eq0.false)) c.requires.room c.word.ensures.put c.word-else-n-eq0.ensures.put
+returns-else-n-eq0-clause-put c = put-tagged _ _ (omega arith) (omega (arith, c.if-n-eq0.false)) c.requires c.word.ensures.put c.word-else-n-eq0.ensures.put
