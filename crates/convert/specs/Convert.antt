@@ -98,13 +98,13 @@ convert version s size out = after_header (read_header s size both_versions) (λ
 pub record Converted : Type 0 where
   pub number : ℕ
   pub place : ℕ
-  pub length : ℕ
+  pub new_length : ℕ
   pub size : ℕ
 
 -- length and size "are 0 in any refusal"
 abbrev pub answer_of : Step New → Converted
-answer_of (got x n) = record { number = 0; place = 0; length = n; size = x.size }
-answer_of (stop k p) = record { number = k; place = p; length = 0; size = 0 }
+answer_of (got x n) = record { number = 0; place = 0; new_length = n; size = x.size }
+answer_of (stop k p) = record { number = k; place = p; new_length = 0; size = 0 }
 
 -- and the output, which stays as it was in a refusal
 abbrev pub output_or : List ℕ → Step New → List ℕ
@@ -113,8 +113,8 @@ output_or out (stop _ _) = out
 
 -- what the code's result tells
 abbrev pub converted_of : Result Made Stop → Converted
-converted_of (Ok x) = record { number = 0; place = 0; length = x.length; size = x.size }
-converted_of (Err k) = record { number = number k.why; place = k.place; length = 0; size = 0 }
+converted_of (Ok x) = record { number = 0; place = 0; new_length = x.length; size = x.size }
+converted_of (Err k) = record { number = number k.why; place = k.place; new_length = 0; size = 0 }
 
 -- the contract of both: where y is to be answered and `out` stood in the output, r tells the answer and the output is `new`
 abbrev pub Converts : List ℕ → Step New → Result Made Stop → List ℕ → Type 0

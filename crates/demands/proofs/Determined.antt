@@ -85,7 +85,7 @@ written-same (Err k) (Ok y) e f = absurd (refused k e)
 written-same (Err k) (Err l) e f = ap (λ (j : Refusal). Err j) (same-number k l e)
 
 converted-same : (r q : Result Made Stop) → converted_of r ≡ converted_of q → r ≡ q
-converted-same (Ok x) (Ok y) e = λ i. Ok (record { length = (e i).length; size = (e i).size })
+converted-same (Ok x) (Ok y) e = λ i. Ok (record { length = (e i).new_length; size = (e i).size })
 converted-same (Ok x) (Err l) e = absurd (refused l.why (sym (ap (λ (c : Converted). c.number) e)))
 converted-same (Err k) (Ok y) e = absurd (refused k.why (ap (λ (c : Converted). c.number) e))
 converted-same (Err k) (Err l) e = let f = same-number k.why l.why (ap (λ (c : Converted). c.number) e) in λ i. Err (record { why = f i; place = (e i).place })

@@ -33,7 +33,7 @@ use Rattle.convert.specs.Convert.{New, moved, moved_tables, new_tables, begins_b
 use Rattle.convert.specs.Inner.Read.{Read, stopped, versioned}
 use Rattle.convert.specs.declared.convert.Converted.{Converted as Made}
 use Rattle.convert.proofs.Laws.Moved.{all-rows}
-use Rattle.convert.proofs.Laws.Read.{new-end-is}
+use Rattle.convert.proofs.Laws.Read.{new-end-is, table-full, table-within, new-facts}
 
 -- what the writer answers: a refusal, which has no place, or bytes
 data Answered : Step (List ℕ) → Type 0 where
@@ -99,11 +99,14 @@ module _ (version : ℕ) (s : List ℕ) (h : Header) (out : List ℕ) where
           given-last {n} {new = new} a z e =
               let q = writer-gave out new n (answered s (new_tables version s h) out) (subst (λ (w : Result ℕ Refusal). Writes out (write_header s (new_tables version s h) out) w new) z a) in
               let f : got (record { output = new; size = (new_tables version s h).size }) n ≡ converted version s h out = ap (into (λ o. record { output = o; size = (new_tables version s h).size })) q ∙ by-writer in
-              ((λ i. record { number = 0; place = 0; length = n; size = e i }) ∙ ap answer_of f, ap (output_or out) f)
+              ((λ i. record { number = 0; place = 0; new_length = n; size = e i }) ∙ ap answer_of f, ap (output_or out) f)
 
 -- where no begin lies below the end of the header, seen in the rows
-pub behind-is : (version : ℕ) (s : List ℕ) (h : Header) → h.tables.nvars ≤ length h.tables.vars → {r : Bool} → r ≡ list_all (λ (v : Var). leb h.end v.begin) (take h.tables.nvars h.tables.vars) → r ≡ begins_behind version s h
-behind-is version s h l e = e ∙ all-rows (λ (v : Var). leb h.end v.begin) h.tables.vars no_var h.tables.nvars l
+pub behind-is : (version : ℕ) (s : List ℕ) (h : Header) → Read s h → {r : Bool} → r ≡ list_all (λ (v : Var). leb h.end v.begin) (take h.tables.nvars h.tables.vars) → r ≡ begins_behind version s h
+behind-is version s h read e =
+    let few = (table-within s h read).vars in
+    let rows = (table-full s h read).vars in
+    e ∙ all-rows (λ (v : Var). leb h.end v.begin) h.tables.vars no_var h.tables.nvars (omega arith)
 
 -- the tables that the code makes are the new ones
 module _ (version : ℕ) (s : List ℕ) (h : Header) {u : Tables} where
@@ -111,9 +114,10 @@ module _ (version : ℕ) (s : List ℕ) (h : Header) {u : Tables} where
   made r e f = f ∙ ap (λ (n : ℕ). moved_tables version (moved h.end n) h.tables) (e ∙ new-end-is version s h r)
 
   module _ (is : u ≡ new_tables version s h) where
-    pub made-fit : u.nvars ≤ length u.vars → {limit : ℕ} {r : Bool} → limit ≡ half (form version).begin_bytes → r ≡ list_all (λ (v : Var). ltb v.begin limit) (take u.nvars u.vars) → r ≡ begins_fit version s h
-    made-fit l {limit} e f =
-        f ∙ all-rows (λ (v : Var). ltb v.begin limit) u.vars no_var u.nvars l
+    pub made-fit : Read s h → length u.vars ≡ 64 → {limit : ℕ} {r : Bool} → limit ≡ half (form version).begin_bytes → r ≡ list_all (λ (v : Var). ltb v.begin limit) (take u.nvars u.vars) → r ≡ begins_fit version s h
+    made-fit read rows {limit} e f =
+        let few = (new-facts version s h read is).few in
+        f ∙ all-rows (λ (v : Var). ltb v.begin limit) u.vars no_var u.nvars (omega arith)
         ∙ ap (λ (x : Tables). all_below x.nvars (λ i. ltb (var_at x i).begin limit)) is
         ∙ ap (λ (k : ℕ). all_below (new_tables version s h).nvars (λ i. ltb (var_at (new_tables version s h) i).begin k)) e
 

@@ -45,5 +45,5 @@ converted-refused (got x n) k out length size e f = absurd (refused k.why (ap (�
 converted-refused (stop i p) k out length size e f = (ap (λ (r : Converted). r.number) e, f, refl, refl)
 
 pub converted-told : (y : Step New) (r : Made) (out : List ℕ) {new : List ℕ} (length size : ℕ) → Numbered y → converted_of (Ok r) ≡ answer_of y → new ≡ output_or out y → TellsConverted y 0 out new length r.length size r.size
-converted-told (got x n) r out length size m e f = (refl, f, ap (λ (r : Converted). r.length) e, ap (λ (r : Converted). r.size) e)
+converted-told (got x n) r out length size m e f = (refl, f, ap (λ (r : Converted). r.new_length) e, ap (λ (r : Converted). r.size) e)
 converted-told (stop k p) r out length size m e f = absurd (m (sym (ap (λ (r : Converted). r.number) e)))
