@@ -80,7 +80,9 @@ impl Element for i16 {
             out[q + 3] = low16(x / 0x1_0000_0000_0000).cast_signed();
         }
         let rest = n % 4;
-        for i in n - rest..n {
+        // counted from 0, so that LLVM sees that they are three at most, and makes no vectors of them
+        for k in 0..rest {
+            let i = n - rest + k;
             out[i] = i16::load(src, 2 * i);
         }
     }

@@ -8,7 +8,7 @@ use Rattle.decode.specs.Decoded.{short}
 use Rattle.decode.specs.Inner.Chunks.{of_chunk}
 use Rattle.decode.proofs.Laws.Decoded.{stored}
 use Rattle.decode.proofs.Laws.Pairs.{pairs}
-use Rattle.decode.proofs.Laws.Filled.{Filled, filled_none, filled-since, filled_more, filled-four, filled-all}
+use Rattle.decode.proofs.Laws.Filled.{Filled, filled_none, filled-since, filled_on, filled-four, filled-all}
 use Rattle.decode.proofs.chunk.I16Element.decode.Goals as goal
 
 pub loop-j-init : goal.loop-j-init
@@ -24,13 +24,13 @@ loop-j-preserved c =
     (stored w16 c.cast_signed-in-loop-j-2.type_inv c.cast_signed-in-loop-j-2.ensures (c.low16-in-loop-j-2.ensures ∙ four.2 ∙ ap (be 2 src) (omega arith)))
     (stored w16 c.cast_signed-in-loop-j-3.type_inv c.cast_signed-in-loop-j-3.ensures (c.low16-in-loop-j-3.ensures ∙ four.3 ∙ ap (be 2 src) (omega arith)))
 
-pub loop-i-init : goal.loop-i-init
-loop-i-init c = subst (λ (k : ℕ). Filled (of_chunk short 2 c.args.src.now) c.loop-j.out c.loop-j.out k) (omega arith) (filled-since _ _ c.loop-j.invariant)
+pub loop-k-init : goal.loop-k-init
+loop-k-init c = subst (λ (k : ℕ). Filled (of_chunk short 2 c.args.src.now) c.loop-j.out c.loop-j.out k) (omega arith) (filled-since _ _ c.loop-j.invariant)
 
-pub loop-i-preserved : goal.loop-i-preserved
-loop-i-preserved c = filled_more _ _ _ c.loop-i.invariant (omega arith) (stored w16 c.load.type_inv c.load.ensures refl)
+pub loop-k-preserved : goal.loop-k-preserved
+loop-k-preserved c = filled_on _ _ c.loop-k.invariant refl (omega arith) (omega arith) (stored w16 c.load.type_inv c.load.ensures refl)
 
 pub returns : goal.returns
 returns c =
     let long = c.loop-j.invariant.long in
-    filled-all _ _ c.loop-i.invariant (omega arith) ∙ ap (tab (of_chunk short 2 c.args.src.now)) long
+    filled-all _ _ c.loop-k.invariant (omega arith) ∙ ap (tab (of_chunk short 2 c.args.src.now)) long
