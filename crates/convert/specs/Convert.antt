@@ -15,9 +15,11 @@ use Rattle.grammar.specs.declared.tables.Tables.{Tables}
 use Rattle.rules.specs.Encode.{encode}
 use Rattle.order.specs.Writable.{to_write}
 use Rattle.sizes.specs.Records.{ends_hold, max_position}
-use Rattle.header.specs.Header.{HeaderAnswer as Header, read_header, after_header}
+use Rattle.header.specs.Header.{read_header, after_header}
+use Rattle.header.specs.declared.reader.HeaderAnswer.{HeaderAnswer as Header}
 use Rattle.writer.specs.Writes.{write_header}
 use Rattle.convert.specs.declared.convert.Converted.{Converted as Made}
+use Rattle.convert.specs.declared.convert.ConvertedAnswer.{ConvertedAnswer as Converted}
 
 -- where a position behind a header that ended at `old` lies behind one that ends at `new`: it "moves by new header length minus old". Asked only of positions from `old` on
 abbrev pub moved : ℕ → ℕ → ℕ → ℕ
@@ -93,13 +95,6 @@ module _ (version : ℕ) (s : List ℕ) (h : Header) where
 -- the file of that size which starts with s, in the version: "the header's refusals" with their places, then as above. Its place is the new header's length
 unfoldable pub convert : ℕ → List ℕ → ℕ → List ℕ → Step New
 convert version s size out = after_header (read_header s size both_versions) (λ h. converted version s h out)
-
--- what is answered: number and place, the new header's length and the new size
-pub record Converted : Type 0 where
-  pub number : ℕ
-  pub place : ℕ
-  pub new_length : ℕ
-  pub size : ℕ
 
 -- length and size "are 0 in any refusal"
 abbrev pub answer_of : Step New → Converted

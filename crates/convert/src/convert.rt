@@ -3,7 +3,7 @@ ghost use Rattle.std.specs.Prelude.{◌≡◌, true};
 ghost use Rattle.grammar.specs.Inner.Within.{Shaped};
 ghost use Rattle.model.specs.Model.{ids_hold};
 ghost use Rattle.sizes.specs.Records.{sizes_hold, ends_hold};
-ghost use Rattle.convert.specs.Convert.{converted, convert, Converts};
+ghost use Rattle.convert.specs.Convert.{converted, convert, converted_of, Converts};
 ghost use Rattle.convert.specs.Inner.Read.{Read, as_read, stopped};
 
 use crate::begins::{begins_behind, begins_below, moved_tables};
@@ -21,6 +21,35 @@ use writer::header::write_header;
 pub struct Converted {
     pub length: u64,
     pub size: u64,
+}
+
+// The whole answer: the number and place of a refusal, with both lengths 0; or 0, the new header's length and the new file's size.
+#[derive(Clone, Copy, Debug, PartialEq, Eq, Hash)]
+pub struct ConvertedAnswer {
+    pub number: u8,
+    pub place: usize,
+    pub new_length: u64,
+    pub size: u64,
+}
+
+// What a result of `widen` or `narrow` answers.
+pub fn answer(made: Result<Converted, Stop>) -> ConvertedAnswer
+    ensures { result ≡ converted_of made }
+{
+    match made {
+        Ok(new) => ConvertedAnswer {
+            number: 0,
+            place: 0,
+            new_length: new.length,
+            size: new.size,
+        },
+        Err(stop) => ConvertedAnswer {
+            number: stop.why.number(),
+            place: stop.place,
+            new_length: 0,
+            size: 0,
+        },
+    }
 }
 
 // Whether no variable ends above 2^62.

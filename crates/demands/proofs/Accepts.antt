@@ -18,7 +18,8 @@ use Rattle.grammar.specs.declared.tables.Tables.{Tables}
 use Rattle.rules.specs.Encode.{encode}
 use Rattle.sizes.specs.Records.{ends_hold, max_position}
 use Rattle.order.specs.Writable.{to_write, writable}
-use Rattle.header.specs.Header.{HeaderAnswer as Header, read_header}
+use Rattle.header.specs.Header.{read_header}
+use Rattle.header.specs.declared.reader.HeaderAnswer.{HeaderAnswer as Header}
 use Rattle.header.proofs.Laws.Header.{after_read}
 use Rattle.writer.specs.Writes.{write_header}
 use Rattle.convert.specs.Convert.{new_end, new_tables, begins_behind, begins_fit, converted, convert}

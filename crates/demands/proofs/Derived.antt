@@ -35,7 +35,8 @@ use Rattle.rules.proofs.Laws.Weaken.{header-more}
 use Rattle.rules.proofs.Laws.Cleared.{header-back}
 use Rattle.sizes.specs.Records.{sizes_hold, max_position, padded_bytes, max_chunk, record_size}
 use Rattle.sizes.specs.Count.{record_count}
-use Rattle.header.specs.Header.{HeaderAnswer as Header, answer, judged, read_header}
+use Rattle.header.specs.Header.{answer, judged, read_header}
+use Rattle.header.specs.declared.reader.HeaderAnswer.{HeaderAnswer as Header}
 use Rattle.header.proofs.Laws.Accepted.{accepted-came, same-model, same-sizes, same_count, same_ends}
 use Rattle.demands.specs.Derived.{Allowed, AcceptedIsDerived, DerivedIsRead, OneMeaning, NoPrefix, EncodeIsDerived, DerivedIsInRange, BytesBack}
 

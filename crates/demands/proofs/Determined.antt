@@ -6,10 +6,12 @@ use Rattle.cdf.specs.Refusals.{answered}
 use Rattle.cdf.specs.declared.refusal.Refusal.{Refusal}
 use Rattle.cdf.specs.declared.refusal.Stop.{Stop}
 use Rattle.cdf.proofs.Laws.Refusals.{refused, same-number, same_result}
-use Rattle.header.specs.Header.{HeaderAnswer as Header, refusal, header_of}
+use Rattle.header.specs.Header.{refusal, header_of}
+use Rattle.header.specs.declared.reader.HeaderAnswer.{HeaderAnswer as Header}
 use Rattle.header.specs.declared.reader.Header.{Header as Read}
 use Rattle.writer.specs.Writes.{length_told}
-use Rattle.convert.specs.Convert.{Converted, converted_of}
+use Rattle.convert.specs.Convert.{converted_of}
+use Rattle.convert.specs.declared.convert.ConvertedAnswer.{ConvertedAnswer as Converted}
 use Rattle.convert.specs.declared.convert.Converted.{Converted as Made}
 use Prim.Native.Nat.{ℕ}
 use Rattle.demands.specs.Determined.{HeaderDetermined, OutputsDetermined, ReadsDetermined, ResultsDetermined, FoundDetermined, GuestDetermined, ElementsDetermined, LoadsDetermined, PartsDetermined, LookupsDetermined, NumbersDetermined, WriterDetermined, ConversionDetermined}

@@ -1,6 +1,6 @@
 -- The tables of an accepted header hold what was read.
 use mathlib.Core.Path.{refl, sym, ap, ◌∙◌}
-use Rattle.header.specs.Header.{HeaderAnswer as Header}
+use Rattle.header.specs.declared.reader.HeaderAnswer.{HeaderAnswer as Header}
 use Rattle.cdf.proofs.Laws.Step.{got_same, into-got}
 use Rattle.grammar.specs.Tree.{Tree}
 use Rattle.grammar.specs.Tables.{laid}

@@ -7,7 +7,7 @@ use mathlib.Core.Path.{◌≡◌, refl, sym, ap, subst, ◌∙◌}
 use mathlib.Core.Bool.{Bool, true, false}
 use mathlib.Core.List.{List}
 use borrow.Author.Tests.{leb-true, ltb-true, eqb-true}
-use Rattle.header.specs.Header.{HeaderAnswer as Header}
+use Rattle.header.specs.declared.reader.HeaderAnswer.{HeaderAnswer as Header}
 use Rattle.cdf.specs.Step.{got, given_or}
 use Rattle.cdf.specs.Below.{any_below}
 use Rattle.cdf.specs.declared.version.Admitted.{Admitted}

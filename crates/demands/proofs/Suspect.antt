@@ -7,7 +7,7 @@ use mathlib.Core.Path.{◌≡◌, refl, sym, ap, subst, ◌∙◌}
 use mathlib.Core.Bool.{Bool, true, false}
 use lib.Dec.{leb, eqb}
 use borrow.Author.Tests.{le-leb, lt-leb, lt-ltb, leb-true}
-use Rattle.header.specs.Header.{HeaderAnswer as Header}
+use Rattle.header.specs.declared.reader.HeaderAnswer.{HeaderAnswer as Header}
 use Rattle.cdf.specs.Step.{Step, got, test}
 use Rattle.cdf.proofs.Laws.Below.{order, first-none}
 use Rattle.cdf.proofs.Laws.Step.{by-true, by-false, test-came, got_same}

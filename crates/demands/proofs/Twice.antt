@@ -14,7 +14,8 @@ use Rattle.grammar.specs.Meaning.{Variable, Contents, contents, held, said}
 use Rattle.rules.specs.Encode.{encode}
 use Rattle.rules.proofs.Laws.Views.{EachIs}
 use Rattle.order.specs.Writable.{to_write}
-use Rattle.header.specs.Header.{HeaderAnswer as Header, read_header}
+use Rattle.header.specs.Header.{read_header}
+use Rattle.header.specs.declared.reader.HeaderAnswer.{HeaderAnswer as Header}
 use Rattle.convert.specs.Convert.{moved, in_version, new_end, new_tables}
 use Rattle.demands.specs.Derived.{AreBytes}
 use Rattle.demands.specs.Written.{ReadIsGivenBack}

@@ -39,7 +39,8 @@ use Rattle.model.specs.Model.{names_hold, one_unlimited, id_holds, ids_hold, mod
 use Rattle.sizes.specs.Records.{sizes_hold, ends_hold, max_position}
 use Rattle.sizes.specs.Count.{record_count}
 use Rattle.convert.proofs.Laws.Read.{same-inside}
-use Rattle.header.specs.Header.{HeaderAnswer as Header, answer, judged, read_header}
+use Rattle.header.specs.Header.{answer, judged, read_header}
+use Rattle.header.specs.declared.reader.HeaderAnswer.{HeaderAnswer as Header}
 use Rattle.header.proofs.Laws.Accepted.{accepted-came, tree-size, same-sizes, same_ends}
 use Rattle.found.specs.Sought.{shape_holds, tables_hold}
 use Rattle.header.proofs.Laws.Refusals.{Refuses, gives, stops, count-refuses}

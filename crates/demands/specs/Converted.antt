@@ -11,7 +11,8 @@ use Rattle.rules.specs.Encode.{encode}
 use Rattle.rules.specs.Cleared.{empty_tags, cleared}
 use Rattle.sizes.specs.Records.{ends_hold, max_position}
 use Rattle.order.specs.Writable.{to_write, writable}
-use Rattle.header.specs.Header.{HeaderAnswer as Header, read_header}
+use Rattle.header.specs.Header.{read_header}
+use Rattle.header.specs.declared.reader.HeaderAnswer.{HeaderAnswer as Header}
 use Rattle.reads.specs.Element.{element_read}
 use Rattle.convert.specs.Convert.{moved, new_end, new_tables, begins_behind, begins_fit, convert}
 use Rattle.demands.specs.Derived.{AreBytes}

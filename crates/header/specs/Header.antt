@@ -11,13 +11,7 @@ use Rattle.sizes.specs.Records.{sizes_hold, ends_hold, max_position}
 use Rattle.sizes.specs.Count.{record_count}
 use Rattle.grammar.specs.declared.tables.Tables.{Tables}
 use Rattle.header.specs.declared.reader.Header.{Header as Read}
-
--- what is answered: the number and place of a refusal, or 0 and the header's end; and tables
-pub record HeaderAnswer : Type 0 where
-  pub number : ℕ
-  pub place : ℕ
-  pub end : ℕ
-  pub tables : Tables
+use Rattle.header.specs.declared.reader.HeaderAnswer.{HeaderAnswer}
 
 -- 01: "A header refusal returns its number, a place, and tables of version 1 with all else 0. Ends .. are 0 in any refusal"
 unfoldable pub refusal : ℕ → ℕ → HeaderAnswer

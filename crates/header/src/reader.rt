@@ -1,12 +1,12 @@
 // The header reader.
 ghost use Rattle.std.specs.Prelude.{◌≡◌, ℕ};
 ghost use Rattle.grammar.specs.Inner.Within.{Within};
-ghost use Rattle.header.specs.Header.{judged, Conforms};
+ghost use Rattle.header.specs.Header.{header_of, judged, Conforms};
 ghost use Rattle.header.specs.Inner.Answers.{counted};
 
 use cdf::refusal::{Refusal, Stop};
 use cdf::version::Admitted;
-use grammar::tables::{MAX_POSITION, Tables};
+use grammar::tables::{MAX_POSITION, Tables, blank};
 use grammar::whole::parse_header;
 use model::checked::Checked;
 use model::rules::model_holds;
@@ -18,6 +18,36 @@ use sizes::records::{ends_hold, measure};
 pub struct Header {
     pub end: usize,
     pub tables: Tables,
+}
+
+// The whole answer: the number and place of a refusal, with the end 0 and blank tables; or 0, and what was read.
+#[derive(Clone, Copy)]
+pub struct HeaderAnswer {
+    pub number: u8,
+    pub place: usize,
+    pub end: usize,
+    pub tables: Tables,
+}
+
+// What a result of `read_header` answers.
+#[tactic(auto, unfolding(crate::specs::Header::refusal))]
+pub fn answer(read: Result<Header, Stop>) -> HeaderAnswer
+    ensures { result ≡ header_of read }
+{
+    match read {
+        Ok(h) => HeaderAnswer {
+            number: 0,
+            place: 0,
+            end: h.end,
+            tables: h.tables,
+        },
+        Err(stop) => HeaderAnswer {
+            number: stop.why.number(),
+            place: stop.place,
+            end: 0,
+            tables: blank(),
+        },
+    }
 }
 
 // The record count of tables that were read, by the rules 11, 12, 14, 13 and 15.

@@ -1,7 +1,8 @@
 -- What the listing program prints (01, Reference file and marked examples: "The listing program ..").
 use Rattle.std.specs.Prelude.{ℕ, ◌≡◌, List, [], ◌∷◌, ◌++◌, length}
 use Rattle.cdf.specs.Magic.{both_versions}
-use Rattle.header.specs.Header.{HeaderAnswer as Header, read_header}
+use Rattle.header.specs.Header.{read_header}
+use Rattle.header.specs.declared.reader.HeaderAnswer.{HeaderAnswer as Header}
 use Rattle.hexlines.specs.Line.{LineKind, long, hex, file, kind_of}
 use Rattle.hexlines.specs.Lines.{lines}
 use Rattle.hexlines.specs.Text.{field_text}

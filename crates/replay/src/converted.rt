@@ -2,7 +2,7 @@
 use crate::output::show_filled;
 use crate::text::{least, show_number};
 use cdf::refusal::Stop;
-use convert::convert::{Converted, narrow, widen};
+use convert::convert::{Converted, answer, narrow, widen};
 
 fn convert(to_two: bool, prefix: &[u8], size: u64, out: &mut [u8]) -> Result<Converted, Stop> {
     if to_two {
@@ -13,18 +13,11 @@ fn convert(to_two: bool, prefix: &[u8], size: u64, out: &mut [u8]) -> Result<Con
 }
 
 fn convert_into(to_two: bool, prefix: &[u8], size: u64, out: &mut [u8]) {
-    let (number, place, new) = match convert(to_two, prefix, size, out) {
-        Ok(new) => (0, 0, new),
-        Err(stop) => (
-            stop.why.number(),
-            stop.place as u64,
-            Converted { length: 0, size: 0 },
-        ),
-    };
-    show_number(place);
-    show_number(new.length);
+    let new = answer(convert(to_two, prefix, size, out));
+    show_number(new.place as u64);
+    show_number(new.new_length);
     show_number(new.size);
-    show_filled(number, out);
+    show_filled(new.number, out);
 }
 
 // The place, the new header's length, the new size, the answer's number, and every byte of an output of `room` bytes, those that stay too.

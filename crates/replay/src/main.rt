@@ -28,7 +28,7 @@ use crate::text::numbers;
 use crate::written::show_written;
 use cdf::version::Admitted;
 use grammar::tables::{Tables, blank};
-use header::reader::read_header;
+use header::reader::{answer as header_answer, read_header};
 use hexlines::cut::{OpenLine, cut_line};
 use hexlines::line::{FileBytes, line_answer};
 
@@ -58,17 +58,9 @@ fn headed(set: u64, prefix: &[u8], size: u64) -> Tables {
         classic: set % 2 == 1,
         offset64: set / 2 % 2 == 1,
     };
-    match read_header(prefix, size, admitted) {
-        Ok(h) => {
-            show_header(0, 0, h.end, &h.tables);
-            h.tables
-        }
-        Err(stop) => {
-            let none = blank();
-            show_header(stop.why.number(), stop.place, 0, &none);
-            none
-        }
-    }
+    let h = header_answer(read_header(prefix, size, admitted));
+    show_header(&h);
+    h.tables
 }
 
 // The header of a file, and the window that holds all of it.

@@ -1,6 +1,7 @@
 // The answer of the header reader, all of it: one line of numbers.
 use crate::text::{show_last, show_number, wide};
 use grammar::tables::{Attr, Tables, Var};
+use header::reader::HeaderAnswer;
 
 // Whether a number was not 0, of those that must be.
 fn marked(before: u64, n: u64) -> u64 {
@@ -106,10 +107,11 @@ fn show_vars(t: &Tables) {
 }
 
 // Number, place and end; version, count word, record count and size; then the three lists.
-pub fn show_header(number: u8, place: usize, end: usize, t: &Tables) {
-    show_number(wide(number));
-    show_number(place as u64);
-    show_number(end as u64);
+pub fn show_header(h: &HeaderAnswer) {
+    let t = &h.tables;
+    show_number(wide(h.number));
+    show_number(h.place as u64);
+    show_number(h.end as u64);
     show_number(t.version as u64);
     show_number(t.word);
     show_number(t.count);

@@ -2,15 +2,12 @@
 use crate::output::show_filled;
 use crate::text::{least, show_number};
 use grammar::tables::Tables;
-use writer::header::write_header;
+use writer::header::{answer, write_header};
 
 fn write_into(t: Tables, text: &[u8], out: &mut [u8]) {
-    let (number, length) = match write_header(t, text, out) {
-        Ok(length) => (0, length),
-        Err(k) => (k.number(), 0),
-    };
-    show_number(length);
-    show_filled(number, out);
+    let written = answer(write_header(t, text, out));
+    show_number(written.length);
+    show_filled(written.number, out);
 }
 
 // The header's length, the answer's number, and every byte of an output of `room` bytes, those that the writer leaves too.

@@ -2,7 +2,8 @@
 ghost use Rattle.std.specs.Prelude.{◌≡◌, ◌≤◌, ◌++◌, length, drop};
 ghost use Rattle.writer.specs.Inner.Put.{Adds, Room};
 ghost use Rattle.writer.specs.Inner.Parts.{header_out, RowsIn};
-ghost use Rattle.writer.specs.Writes.{write_header, Writes};
+ghost use Rattle.cdf.specs.Refusals.{answered};
+ghost use Rattle.writer.specs.Writes.{length_told, write_header, Writes};
 
 use crate::output::Output;
 use crate::rows::put_list;
@@ -10,6 +11,26 @@ use cdf::list::{ATTRIBUTE_TAG, DIMENSION_TAG, VARIABLE_TAG};
 use cdf::refusal::Refusal;
 use grammar::tables::Tables;
 use order::writable::judged;
+
+// The whole answer: 0 and the header's length, or the number of a refusal and 0.
+#[derive(Clone, Copy, Debug, PartialEq, Eq, Hash)]
+pub struct Written {
+    pub number: u8,
+    pub length: u64,
+}
+
+// What a result of `write_header` answers.
+pub fn answer(written: Result<u64, Refusal>) -> Written
+    ensures { result ≡ record { number = answered written; length = length_told written } }
+{
+    match written {
+        Ok(length) => Written { number: 0, length },
+        Err(why) => Written {
+            number: why.number(),
+            length: 0,
+        },
+    }
+}
 
 // `CDF` and no version.
 const MAGIC: u64 = 0x4344_4600;

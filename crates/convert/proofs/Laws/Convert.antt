@@ -26,7 +26,8 @@ use Rattle.rules.specs.Encode.{encode}
 use Rattle.sizes.specs.Records.{ends_hold, max_position}
 use Rattle.order.specs.Writable.{to_write, writable}
 use Rattle.order.specs.Inner.Lengths.{header_length}
-use Rattle.header.specs.Header.{HeaderAnswer as Header, refusal, read_header, after_header, header_of}
+use Rattle.header.specs.Header.{refusal, read_header, after_header, header_of}
+use Rattle.header.specs.declared.reader.HeaderAnswer.{HeaderAnswer as Header}
 use Rattle.header.proofs.Laws.Header.{after-refused, after_read}
 use Rattle.writer.specs.Writes.{write_header, Writes}
 use Rattle.convert.specs.Convert.{New, moved, moved_tables, new_tables, begins_behind, begins_fit, converted, convert, answer_of, output_or, converted_of, Converts}

@@ -29,7 +29,8 @@ use Rattle.order.proofs.Laws.Read.{laid-inside, laid-full}
 use Rattle.order.proofs.Laws.Lengths.{encoded-length}
 use Rattle.order.proofs.Laws.Said.{model-ids}
 use Rattle.order.proofs.Laws.Words.{and}
-use Rattle.header.specs.Header.{HeaderAnswer as Header, read_header}
+use Rattle.header.specs.Header.{read_header}
+use Rattle.header.specs.declared.reader.HeaderAnswer.{HeaderAnswer as Header}
 use Rattle.header.proofs.Laws.Accepted.{Came, accepted-came, tree-size, same-model, same-sizes}
 use Rattle.convert.specs.Convert.{moved, in_version, moved_var, moved_tables, new_end, new_tables}
 use Rattle.convert.specs.Inner.Read.{Read, versioned}

@@ -7,7 +7,8 @@ use Rattle.grammar.specs.declared.tables.Attr.{Attr}
 use Rattle.grammar.specs.declared.tables.Var.{Var}
 use Rattle.grammar.specs.declared.tables.Tables.{Tables}
 use Rattle.order.specs.Inner.Lengths.{var_alone, attrs_length}
-use Rattle.header.specs.Header.{HeaderAnswer as Header, read_header}
+use Rattle.header.specs.Header.{read_header}
+use Rattle.header.specs.declared.reader.HeaderAnswer.{HeaderAnswer as Header}
 use Rattle.header.specs.declared.reader.Header.{Header as Accepted}
 
 -- a header that the code's reader has accepted

@@ -9,7 +9,8 @@ use Rattle.cdf.proofs.Laws.Refusals.{refused}
 use Rattle.cdf.specs.Step.{Step, got, stop, bind, given_or, Leaves}
 use Rattle.cdf.proofs.Laws.Step.{by-got, by-stop}
 use Rattle.grammar.specs.declared.tables.Tables.{Tables}
-use Rattle.header.specs.Header.{HeaderAnswer as Header, refusal, read_header, after_header, header_of}
+use Rattle.header.specs.Header.{refusal, read_header, after_header, header_of}
+use Rattle.header.specs.declared.reader.HeaderAnswer.{HeaderAnswer as Header}
 use Rattle.header.proofs.Laws.Header.{after-refused, after_read}
 use Rattle.crossing.specs.Words.{stored, loaded}
 use Rattle.writer.specs.Writes.{write_header, length_of}

@@ -19,7 +19,7 @@ use Rattle.model.specs.Model.{names_hold, one_unlimited, id_holds, ids_hold, mod
 use Rattle.sizes.specs.Records.{record_size, sizes_hold, ends_hold, max_position}
 use Rattle.sizes.specs.Count.{has_unlimited, has_records, first_begin, record_count}
 use Rattle.header.specs.Header.{refusal, answer, judged, read_header}
-use Rattle.header.specs.Header.{HeaderAnswer as Header}
+use Rattle.header.specs.declared.reader.HeaderAnswer.{HeaderAnswer as Header}
 use Rattle.header.proofs.Laws.Refusals.{Refuses, gives, stops, bind-refuses, test-refuses, into-refuses, header-refuses, judged-refuses}
 
 -- the tree that was read, where it ends, its record count, and every rule that it has met

@@ -21,7 +21,7 @@ use Rattle.cdf.specs.declared.refusal.Refusal.TheVariants.{FileSize}
 use Rattle.cdf.specs.declared.refusal.Stop.{Stop}
 use Rattle.header.specs.Header.{refusal, answer, judged, read_header, after_header}
 use Rattle.grammar.specs.declared.tables.Tables.{Tables}
-use Rattle.header.specs.Header.{HeaderAnswer as Header}
+use Rattle.header.specs.declared.reader.HeaderAnswer.{HeaderAnswer as Header}
 
 -- a refusal that is passed on
 pub passed : {A E : Type 0} (r : Result A E) {k : E} → IsErrAnd r (λ l. l ≡ k) → r ≡ Err k

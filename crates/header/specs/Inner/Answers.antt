@@ -2,7 +2,6 @@
 use Rattle.std.specs.Prelude.{ℕ, Result, Ok, Err}
 use Rattle.cdf.specs.Step.{Step, got, stop}
 use Rattle.cdf.specs.Refusals.{number}
-use Rattle.cdf.specs.declared.refusal.Stop.{Stop}
 use Rattle.cdf.specs.declared.refusal.Refusal.{Refusal}
 use Rattle.grammar.specs.Tables.{with_count}
 use Rattle.grammar.specs.declared.tables.Tables.{Tables}

@@ -10,7 +10,8 @@ use lib.Seq.{take_all, length-take-le}
 use Rattle.std.proofs.lemmas.List.{take-append-drop}
 use lib.Dec.{eqb}
 use borrow.Author.Tests.{ne_eqb}
-use Rattle.header.specs.Header.{HeaderAnswer as Header, refusal, read_header}
+use Rattle.header.specs.Header.{refusal, read_header}
+use Rattle.header.specs.declared.reader.HeaderAnswer.{HeaderAnswer as Header}
 use Rattle.grammar.specs.Tables.{blank, laid}
 use Rattle.cdf.specs.Magic.{both_versions}
 use Rattle.cdf.proofs.Laws.Below.{order}

@@ -9,7 +9,8 @@ use borrow.Author.Tests.{eqb-false}
 use Rattle.cdf.specs.Magic.{both_versions}
 use Rattle.cdf.specs.Step.{Step, got, stop, test, need, into, number_of}
 use Rattle.grammar.specs.declared.tables.Tables.{Tables}
-use Rattle.header.specs.Header.{HeaderAnswer as Header, read_header, after_header}
+use Rattle.header.specs.Header.{read_header, after_header}
+use Rattle.header.specs.declared.reader.HeaderAnswer.{HeaderAnswer as Header}
 use Rattle.crossing.specs.Words.{stored, loaded}
 use Rattle.writer.specs.Writes.{write_header}
 use Rattle.convert.specs.Convert.{new_tables, converted, convert}

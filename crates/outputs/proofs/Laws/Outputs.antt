@@ -11,7 +11,8 @@ use Rattle.std.specs.Prelude.{Ok, Err}
 use Rattle.cdf.specs.Refusals.{number}
 use Rattle.cdf.specs.declared.refusal.Stop.{Stop}
 use Rattle.cdf.proofs.Laws.Refusals.{refused}
-use Rattle.convert.specs.Convert.{New, Converted, answer_of, output_or, converted_of}
+use Rattle.convert.specs.Convert.{New, answer_of, output_or, converted_of}
+use Rattle.convert.specs.declared.convert.ConvertedAnswer.{ConvertedAnswer as Converted}
 use Rattle.convert.specs.declared.convert.Converted.{Converted as Made}
 use Rattle.outputs.specs.Outputs.{part_or, Gets, TellsList, TellsNumber, TellsName, TellsElement, TellsConverted, TellsGuest}
 use Rattle.outputs.proofs.Laws.Numbers.{Numbered}

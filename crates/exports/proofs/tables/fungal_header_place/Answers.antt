@@ -1,5 +1,6 @@
 use mathlib.Core.Path.{ap, ◌∙◌}
-use Rattle.header.specs.Header.{HeaderAnswer as Header, refusal, read_header}
+use Rattle.header.specs.Header.{refusal, read_header}
+use Rattle.header.specs.declared.reader.HeaderAnswer.{HeaderAnswer as Header}
 use Rattle.exports.proofs.tables.fungal_header_place.Goals as goal
 
 pub returns-in-Ok : goal.returns-in-Ok
