@@ -25,7 +25,13 @@ fn names_inside(s: &[u8], t: &Tables) -> bool
     if MAX_VARS < t.nvars {
         return false;
     }
-    vars(t).iter().all(|v| is_inside(s, v))
+    // A loop: an adaptor hands out `Option<&T>`, which is laid out otherwise in wasm32.
+    for v in vars(t) {
+        if !is_inside(s, v) {
+            return false;
+        }
+    }
+    true
 }
 
 // Whether a variable's name is `wanted`.
@@ -44,8 +50,8 @@ pub fn find_var(s: &[u8], t: &Tables, name: &[u8]) -> Result<usize, Refusal>
     if !names_inside(s, t) {
         return Err(Refusal::Tables);
     }
-    for (i, v) in vars(t).iter().enumerate() {
-        if is_named(s, v, name) {
+    for i in 0..t.nvars {
+        if is_named(s, &t.vars[i], name) {
             return Ok(i);
         }
     }
