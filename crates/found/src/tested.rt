@@ -23,7 +23,13 @@ fn shape_holds(t: &Tables) -> bool
     if MAX_DIMS < t.ndims || MAX_VARS < t.nvars {
         return false;
     }
-    vars(t).iter().all(|v| row_holds(v))
+    // A loop: an adaptor hands out `Option<&T>`, which is laid out otherwise in wasm32.
+    for v in vars(t) {
+        if !row_holds(v) {
+            return false;
+        }
+    }
+    true
 }
 
 // Rule 23: the record size of tables that may be read.

@@ -1,16 +1,26 @@
-use Rattle.std.proofs.Common.{rules, ◌∙◌, arith}
-use borrow.Author.Tests.{tests}
-use Rattle.std.proofs.lemmas.Iterator.{YieldsList-from_slice}
-use Rattle.std.proofs.lemmas.Iterator.Search.{all_from_yields_List}
+use Rattle.std.proofs.Common.{sym, ap, ◌∙◌, arith}
+use Rattle.std.proofs.lemmas.List.Folds.{list_all_at}
+use Rattle.std.proofs.lemmas.List.{take_all}
+use Rattle.std.specs.List.{list_all}
 use Rattle.grammar.specs.Tables.{no_var}
 use Rattle.model.proofs.Laws.Rows.{all-of}
 use Rattle.found.specs.Inner.Row.{row_holds}
 use Rattle.found.proofs.Laws.Sought.{shape-is}
 use Rattle.found.proofs.tested.shape_holds.Goals as goal
 
+pub returns-then-not-row_holds : goal.returns-then-not-row_holds
+returns-then-not-row_holds c =
+    let t = c.args.t.now in
+    let v = c.vars-v-items in
+    sym (list_all_at row_holds _ _ no_var c.loop-v-test.true (sym c.row_holds.ensures ∙ c.if-not-row_holds.true))
+    ∙ all-of row_holds t.vars no_var t.nvars v.ensures.rows v.ensures.number
+    ∙ shape-is t (omega arith) (omega arith)
+
 pub returns : goal.returns
 returns c =
     let t = c.args.t.now in
-    all_from_yields_List row_holds _ _ _ c.all.ensures.ran (YieldsList-from_slice c.vars.result.now c.iter.ensures.rest) (λ x r q k. search (rules, tests))
-    ∙ all-of row_holds t.vars no_var t.nvars c.vars.ensures.rows c.vars.ensures.number
+    let v = c.vars-v-items in
+    sym c.loop-v.invariant
+    ∙ ap (list_all row_holds) (take_all _ _ c.loop-v-test.false)
+    ∙ all-of row_holds t.vars no_var t.nvars v.ensures.rows v.ensures.number
     ∙ shape-is t (omega arith) (omega arith)
