@@ -11,7 +11,13 @@ pub(crate) fn begins_behind(t: &Tables, end: u64) -> bool
     requires { t.now.nvars ≤ 64 }
     ensures { result ≡ list_all (λ v. leb end v.begin) (take t.now.nvars t.now.vars) }
 {
-    t.vars[..t.nvars].iter().all(|v| end <= v.begin)
+    // A loop: an adaptor hands out `Option<&T>`, which is laid out otherwise in wasm32.
+    for v in &t.vars[..t.nvars] {
+        if v.begin < end {
+            return false;
+        }
+    }
+    true
 }
 
 // Whether every begin lies below a limit.
@@ -19,7 +25,12 @@ pub(crate) fn begins_below(t: &Tables, limit: u64) -> bool
     requires { t.now.nvars ≤ 64 }
     ensures { result ≡ list_all (λ v. ltb v.begin limit) (take t.now.nvars t.now.vars) }
 {
-    t.vars[..t.nvars].iter().all(|v| v.begin < limit)
+    for v in &t.vars[..t.nvars] {
+        if limit <= v.begin {
+            return false;
+        }
+    }
+    true
 }
 
 // A position behind a header that ended at `old` and now ends at `new`.
