@@ -6,7 +6,7 @@ use Rattle.hexlines.proofs.Laws.Digit.{digits-all, digits-not, two-more, none-sp
 use Rattle.hexlines.proofs.line.decode.Goals as goal
 
 pub loop-i-init : goal.loop-i-init
-loop-i-init g c = (none-spelled c.args.text.now c.clear.new.self.items c.clear.ensures, λ k l. absurd (omega arith))
+loop-i-init g c = (none-spelled c.args.text.now c.args.file.now.items c.requires.2, λ k l. absurd (omega arith))
 
 pub returns-in_err-high-clause-value : goal.returns-in_err-high-clause-value
 returns-in_err-high-clause-value g c =
