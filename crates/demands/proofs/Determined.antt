@@ -1,7 +1,6 @@
 -- Two conforming answers coincide.
 use mathlib.Core.Path.{◌≡◌, refl, sym, ap, ◌∙◌}
 use Rattle.std.specs.Prelude.{Result, Ok, Err}
-use Rattle.cdf.specs.Step.{Step, got, stop}
 use Rattle.cdf.specs.Refusals.{answered}
 use Rattle.cdf.specs.declared.refusal.Refusal.{Refusal}
 use Rattle.cdf.specs.declared.refusal.Stop.{Stop}
