@@ -7,7 +7,8 @@ use mathlib.Core.List.{List, ◌++◌}
 use lib.ListN.{length, get_or, drop, get_or-append}
 use lib.Dec.{ltb, leb, eqb}
 use borrow.Author.Tests.{le-leb, lt-ltb, ltb-true}
-use Rattle.cdf.specs.Step.{Step, got, stop, bind, test, number_of, given_or}
+use Rattle.std.specs.Prelude.{Some}
+use Rattle.cdf.specs.Step.{Step, got, stop, bind, test, into, number_of, given_or}
 use Rattle.cdf.proofs.Laws.Step.{bind-same, by-got, by-true, got_same, refused-given}
 use Rattle.bigendian.specs.Lists.{tab, grid}
 use Rattle.bigendian.proofs.Laws.Lists.{grid-ext, length-tab, get_or-tab, tab-ext, entry}
@@ -19,6 +20,8 @@ use Rattle.reads.specs.Reads.{record_at, element_at, bits, holds, record_read, w
 use Rattle.reads.specs.Element.{value_of, element_of, element_read, element_read_as}
 use Rattle.found.specs.declared.variable.Spread.{Spread}
 use Rattle.found.proofs.Laws.Sought.{typed-came}
+use Rattle.reads.proofs.Laws.Bounded.{found}
+use Rattle.reads.proofs.Laws.Element.{element-valued}
 use Rattle.reads.proofs.Laws.Reads.{held, held_by, each-held, whole-held, same_number, element-in}
 use Rattle.demands.specs.ValueReads.{Accepts, RefusalsLeaveOutputs, IsTyped, AcceptedIsTyped, ElementsAgree, RecordsAgree, WholesAgree, Share, ElementsAreLocal, RecordsAreLocal, WholesAreLocal}
 
@@ -107,14 +110,16 @@ module _ {A : Type 0} (F : ℕ → A) (code : ℕ) (t : Tables) (s : List ℕ) (
 module _ (code : ℕ) (t : Tables) (s : List ℕ) (start i r e : ℕ) (v : Spread) (is : IsTyped code t i v) where
   -- an element of a record that the window holds
   element-inside : r < v.records → e < v.chunk → holds (length s) start (record_at v r) (v.chunk * v.width) ≡ true
-      → element_read_as code t s start i r e ≡ got (value_of code (bits v s start r e)) 0
-  unfolding element_read_as element_of
+      → into Some (element_read_as code t s start i r e) ≡ got (value_of code (bits v s start r e)) 0
+  unfolding element_read_as
   element-inside h l inside =
       typed-came code t i (sym is) (λ n f c.
       let a = held (length s) start (record_at v r) (v.chunk * v.width) (sym inside) in
       let b = element-in v e l in
       let m = held_by (length s) start (element_at v r e) v.width (omega arith) (omega arith) in
-      bound _ is
+      let o = found t i f in
+      ap (into Some) (bound _ is)
+      ∙ element-valued s start r e v o.low o.high
       ∙ sym (by-true _ (lt-ltb r v.records h) (by-true _ (lt-ltb e v.chunk l) (by-true _ m refl)))
       ∙ ap (λ (k : ℕ). got (value_of k (bits v s start r e)) 0) c)
 

@@ -1,8 +1,8 @@
 -- Reads (01, Records; Answer numbers): refusals leave outputs, the three kinds of reads agree, and no read depends on a byte that it does not
 -- need. `F` is the value that bits stand for, `code` the type that is asked for: the entries of reads/src and records/src have `byte` at 1, `raw` at 2,
 -- `short` at 3, `int` at 4, `float` at 5, `double` at 6, and `raw` at 5 and 6 for the bits.
-use Rattle.std.specs.Prelude.{ℕ, ◌+◌, ◌-◌, ◌*◌, ◌≤◌, ◌<◌, ◌≡◌, true, List, length, get_or}
-use Rattle.cdf.specs.Step.{Step, got, number_of, given_or, Leaves}
+use Rattle.std.specs.Prelude.{ℕ, ◌+◌, ◌-◌, ◌*◌, ◌≤◌, ◌<◌, ◌≡◌, true, List, length, get_or, Some}
+use Rattle.cdf.specs.Step.{Step, got, into, number_of, given_or, Leaves}
 use Rattle.grammar.specs.declared.tables.Tables.{Tables}
 use Rattle.found.specs.Sought.{sought, sought_as}
 use Rattle.reads.specs.Reads.{record_at, element_at, bits, holds, record_read, whole_read}
@@ -42,7 +42,7 @@ RecordsAgree =
     → Accepts (record_read F code t s start i r out)
     → (e : ℕ) (z : A)
     → e < v.chunk
-    → (element_read_as code t s start i r e ≡ got (value_of code (bits v s start r e)) 0)
+    → (into Some (element_read_as code t s start i r e) ≡ got (value_of code (bits v s start r e)) 0)
     × (get_or (given_or out (record_read F code t s start i r out)) e z ≡ F (bits v s start r e))
 
 -- where a whole-variable read accepts, each record read with room for a chunk does, and their outputs have the same entries (01, Records:

@@ -1,6 +1,6 @@
 -- Element reads (01, Records: "answers one value of the variable's type, be it a whole number, float or double, bits kept").
-use Rattle.std.specs.Prelude.{ℕ, ◌-◌, List, [], ◌∷◌, length, get_or, ltb}
-use Rattle.cdf.specs.Step.{Step, got, bind, need}
+use Rattle.std.specs.Prelude.{ℕ, List, [], ◌∷◌, length, get_or, ltb, Option, Some, None}
+use Rattle.cdf.specs.Step.{Step, got, stop, bind, need}
 use Rattle.decode.specs.Decoded.{byte, short, int, float, double}
 use Rattle.grammar.specs.declared.tables.Tables.{Tables}
 use Rattle.found.specs.Sought.{sought, sought_as}
@@ -11,10 +11,15 @@ use Rattle.reads.specs.declared.bits.Bits.{Bits}
 use Rattle.reads.specs.declared.element.Value.{Value}
 use Rattle.reads.specs.declared.element.Value.TheVariants.{Byte, Char, Short, Int, Float, Double}
 
--- the value that bits stand for, by the code of the type, from 1 to 6: the last is what is left. Asked of no other code. A float and a double have their
--- bits beside them
-abbrev pub value_of : ℕ → ℕ → Value
-value_of code b = get_or (Byte (byte b) ∷ Char b ∷ Short (short b) ∷ Int (int b) ∷ Float (float b) b ∷ []) (code - 1) (Double (double b) b)
+-- the value that bits stand for, by the code of the type from 1 on; no type has the code 0, nor one above 6. A float and a double have their bits beside them
+abbrev pub value_of : ℕ → ℕ → Option Value
+value_of code b =
+    get_or (None ∷ Some (Byte (byte b)) ∷ Some (Char b) ∷ Some (Short (short b)) ∷ Some (Int (int b)) ∷ Some (Float (float b) b) ∷ Some (Double (double b) b) ∷ []) code None
+
+-- a value, or the refusal 23 where a code has none. No read comes to that: 23 refuses such codes before, in tables and in what is kept
+abbrev pub valued : Option Value → Step Value
+valued (Some x) = got x 0
+valued None = stop 23 0
 
 -- element e of record r of a variable that was found, as f makes it of the type's code and the bits: 18, 19, 20
 abbrev pub element_with : {A : Type 0} → (ℕ → ℕ → A) → List ℕ → ℕ → ℕ → ℕ → Spread → Step A
@@ -26,7 +31,7 @@ element_with f s start r e v =
 
 -- its value
 unfoldable pub element_of : List ℕ → ℕ → ℕ → ℕ → Spread → Step Value
-element_of s start r e v = element_with value_of s start r e v
+element_of s start r e v = bind (element_with value_of s start r e v) (λ x _. valued x)
 
 -- a read of unasked type: 23, 16, 18, 19, 20
 unfoldable pub element_read : Tables → List ℕ → ℕ → ℕ → ℕ → ℕ → Step Value

@@ -1,7 +1,7 @@
 // Reads of one element.
 #![tactic(auto, unfolding(crate::specs::Element::element_from, crate::specs::Element::element_from_as, crate::specs::Element::element_of, crate::specs::Inner::Spot::element_spot, cdf::specs::Step::bind, cdf::specs::Step::test), using(crate::proofs::Laws::Element::spot_in))]
 
-ghost use Rattle.std.specs.Prelude.{◌≡◌, ◌+◌, ◌≤◌, length};
+ghost use Rattle.std.specs.Prelude.{◌≡◌, ◌+◌, ◌≤◌, length, Some};
 ghost use Rattle.bigendian.specs.Number.{be};
 ghost use Rattle.cdf.specs.Refusals.{of_result};
 ghost use Rattle.items.specs.Types.{size_of};
@@ -32,7 +32,7 @@ pub enum Value {
 // The value of the type `code` at `at`.
 fn value_at(s: &[u8], at: usize, code: u8) -> Value
     requires { (at + size_of code ≤ length s.now) × (1 ≤ code) × (code ≤ 6) }
-    ensures { result ≡ value_of code (be (size_of code) s.now at) }
+    ensures { value_of code (be (size_of code) s.now at) ≡ Some result }
 {
     match DataType::of_code(code as u64) {
         DataType::I8 => Value::Byte(i8::load(s, at)),

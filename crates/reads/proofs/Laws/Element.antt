@@ -2,16 +2,19 @@
 use Prim.Native.Nat.{ℕ, ◌+◌, ◌-◌, ◌≤◌}
 use native.Mathlib.Omega.{arith}
 use mathlib.Core.Path.{◌≡◌, refl, sym, ap, ◌∙◌}
-use mathlib.Core.Bool.{true}
+use mathlib.Core.Bool.{Bool, true, false}
 use mathlib.Core.List.{List}
 use lib.ListN.{length}
+use Rattle.std.specs.Prelude.{Option, Some}
 use Rattle.bigendian.specs.Number.{be}
-use Rattle.cdf.specs.Step.{got, bind}
+use Rattle.cdf.specs.Step.{Step, got, bind, test, need, into}
 use Rattle.cdf.proofs.Laws.Step.{by-got, test-came, got_same, test-same, bind-need, bind-got}
 use Rattle.items.specs.Types.{size_of}
+use Rattle.items.proofs.Laws.Types.{by_code}
 use Rattle.reads.specs.Reads.{element_at, bits, holds}
 use Rattle.reads.specs.Inner.Spot.{element_spot}
-use Rattle.reads.specs.Element.{element_with}
+use Rattle.reads.specs.Element.{value_of, valued, element_with, element_of}
+use Rattle.reads.specs.declared.element.Value.{Value}
 use Rattle.found.specs.declared.variable.Spread.{Spread}
 use Rattle.reads.proofs.Laws.Reads.{held}
 
@@ -44,3 +47,17 @@ module _ (s : List ℕ) (start r e : ℕ) (v : Spread) where
 
     pub spot_got : {A : Type 0} {b : ℕ} (f : ℕ → ℕ → A) → b ≡ be (size_of v.code) s p → got (f v.code b) 0 ≡ element_with f s start r e v
     spot_got f q = ap (λ (n : ℕ). got (f v.code n) 0) (q ∙ bits-there) ∙ by-got _ _ spot refl ∙ spot_parts f
+
+-- each code of a type has a value, so an element of a variable that has a type answers one
+valued-got : (b code : ℕ) → 1 ≤ code → code ≤ 6 → into Some (valued (value_of code b)) ≡ got (value_of code b) 0
+unfolding into
+valued-got b = by_code (λ code. into Some (valued (value_of code b)) ≡ got (value_of code b) 0) refl refl refl refl refl refl
+
+valued-need : (b : Bool) (k p : ℕ) (x : Step (Option Value)) → into Some (bind x (λ w _. valued w)) ≡ x → into Some (bind (need b k p x) (λ w _. valued w)) ≡ need b k p x
+unfolding into bind test
+valued-need true k p x e = e
+valued-need false k p x e = refl
+
+pub element-valued : (s : List ℕ) (start r e : ℕ) (v : Spread) → 1 ≤ v.code → v.code ≤ 6 → into Some (element_of s start r e v) ≡ element_with value_of s start r e v
+unfolding element_of bind
+element-valued s start r e v low high = valued-need _ _ _ _ (valued-need _ _ _ _ (valued-need _ _ _ _ (valued-got (bits v s start r e) v.code low high)))
