@@ -1,6 +1,5 @@
-use Rattle.std.proofs.Common.{arith, length, ◌/◌, ◌*◌}
+use Rattle.std.proofs.Common.{arith}
 use Rattle.std.proofs.lemmas.Grind.{common_steps}
-use Rattle.hexlines.specs.Digit.{are_digits}
 use Rattle.hexlines.proofs.Laws.Line.{kind-long, kind-odd, kind-no-digits, kind-file}
 use Rattle.hexlines.proofs.line.line_answer.Goals as goal
 
@@ -8,7 +7,6 @@ pub returns-clause-means : goal.returns-clause-means
 returns-clause-means g c =
     let t = c.args.text.now in
     let yes = kind-file t c.decode.new.file.items (omega arith) (omega arith) in
-    let d = are_digits (length t / 2 * 2) t in
     grind (arith, common_steps, yes)
 
 pub returns-then-text-gt-MAX_LINE-clause-means : goal.returns-then-text-gt-MAX_LINE-clause-means
@@ -21,5 +19,4 @@ pub returns-then-is_none-clause-means : goal.returns-then-is_none-clause-means
 returns-then-is_none-clause-means g c =
     let t = c.args.text.now in
     let no = kind-no-digits t (omega arith) (omega arith) in
-    let d = are_digits (length t / 2 * 2) t in
     grind (arith, common_steps, no)
