@@ -19,7 +19,13 @@ pub fn compute_padding_size(count: u64) -> u64
 fn all_zero(bytes: &[u8]) -> bool
     ensures { result ≡ list_all (λ b. b == 0) bytes.now }
 {
-    bytes.iter().all(|b| *b == 0)
+    // A loop: an adaptor hands out `Option<&T>`, which is laid out otherwise in wasm32.
+    for b in bytes {
+        if *b != 0 {
+            return false;
+        }
+    }
+    true
 }
 
 // The zero bytes that fill up `count` bytes before the place.

@@ -21,7 +21,8 @@ pub struct Admitted {
 fn agree(bytes: &[u8], pattern: &[u8]) -> bool
     ensures { result ≡ list_all (λ x. x.0 == x.1) (zip bytes.now pattern.now) }
 {
-    bytes.iter().zip(pattern).all(|(b, p)| *b == *p)
+    let both = bytes.len().min(pattern.len());
+    bytes[..both] == pattern[..both]
 }
 
 // Whether the bytes at hand from the place begin `pattern`: none of them departs from it.

@@ -1,5 +1,5 @@
 -- Laws of the first four bytes, and of bytes at hand that begin a pattern.
-use Prim.Native.Nat.{ℕ, suc, ◌+◌, ◌-◌, ◌≤◌, ◌<◌}
+use Prim.Native.Nat.{ℕ, zero, suc, ◌+◌, ◌-◌, ◌≤◌, ◌<◌, min}
 use mathlib.Core.Path.{◌≡◌, refl, ap, sym, ◌∙◌}
 use mathlib.Core.Bool.{Bool, true, false, ◌&&◌, ◌||◌, or-true}
 use mathlib.Core.Logic.{◌⊎◌, ⊎_elim}
@@ -8,6 +8,7 @@ use native.Mathlib.Omega.{arith}
 use lib.ListN.{length, get_or, take, drop, length-drop}
 use Rattle.std.proofs.lemmas.List.{take_rest, get_or-drop}
 use Rattle.std.specs.List.{list_all, zip}
+use Rattle.std.specs.Cmp.Lexicographic.{pointwise}
 use Rattle.std.specs.Bool.{◌==◌}
 use lib.Dec.{leb, eqb, leb-suc-suc, leb-suc-zero}
 use borrow.Author.Tests.{lt-leb, le-leb, eq-eqb, ne_eqb, eqb-true}
@@ -21,6 +22,13 @@ use Rattle.cdf.proofs.Laws.Below.{order, all_hold, one-fails, holds_at, same-bel
 either : (a b : Bool) → a ≡ false → (a || b) ≡ true → b ≡ true
 either true b e h = let z : ◌≡◌ {A = Bool} true false = e in cc
 either false b e h = h
+
+-- the parts of a text and of a pattern as far as both go
+pub agree-parts : (xs t : List ℕ) (n : ℕ) → n ≡ min (length xs) (length t) → pointwise eqb (take n xs) (take n t) ≡ list_all (λ x. x.0 == x.1) (zip xs t)
+agree-parts [] t n e = let z : n ≡ 0 = omega arith in rw z
+agree-parts (x ∷ xs) [] n e = let z : n ≡ 0 = omega arith in rw z
+agree-parts (x ∷ xs) (y ∷ t) zero e = absurd (omega arith)
+agree-parts (x ∷ xs) (y ∷ t) (suc n) e = ap (λ (b : Bool). eqb x y && b) (agree-parts xs t n (omega arith))
 
 -- a text that agrees with a pattern as far as both go, by the pattern's numbers
 agree-below : (xs t : List ℕ) → list_all (λ x. x.0 == x.1) (zip xs t) ≡ all_below (length t) (λ i. leb (length xs) i || eqb (get_or xs i 0) (get_or t i 0))
