@@ -1,2 +1,3 @@
 -- Words of inner contracts alone: no entry's contract and no demand reaches them.
 pub mod Rows
+pub mod Unlimited

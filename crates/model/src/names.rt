@@ -86,14 +86,26 @@ fn same_name(s: &[u8], a: Span, b: Span) -> bool
 fn is_new<R: Named>(s: &[u8], before: &[R], name: Span) -> bool
     ensures { result ≡ new_after s.now R.span_of before.now name }
 {
-    0 < name.chars && !before.iter().any(|row| same_name(s, row.span(), name))
+    if name.chars == 0 {
+        return false;
+    }
+    // A loop: an adaptor hands out `Option<&T>`, which is laid out otherwise in wasm32.
+    for row in before {
+        if same_name(s, row.span(), name) {
+            return false;
+        }
+    }
+    true
 }
 
 // Whether no row's name is empty or stands before.
 pub(crate) fn distinct<R: Named>(s: &[u8], rows: &[R]) -> bool
     ensures { result ≡ distinct s.now (nth_span R.span_of rows.now) (length rows.now) }
 {
-    rows.iter()
-        .enumerate()
-        .all(|(i, row)| is_new(s, &rows[..i], row.span()))
+    for i in 0..rows.len() {
+        if !is_new(s, &rows[..i], rows[i].span()) {
+            return false;
+        }
+    }
+    true
 }

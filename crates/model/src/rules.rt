@@ -2,6 +2,7 @@
 ghost use Rattle.std.specs.Prelude.{◌≡◌, ◌≤◌};
 ghost use Rattle.model.specs.Model.{names_hold, one_unlimited, ids_hold, model_holds};
 ghost use Rattle.model.specs.Inner.Rows.{row_ids_hold};
+ghost use Rattle.model.specs.Inner.Unlimited.{unlimited};
 ghost use Rattle.grammar.specs.Inner.Within.{Within, Shaped};
 
 use crate::names::distinct;
@@ -30,12 +31,32 @@ fn names_hold(s: &[u8], t: &Tables) -> bool
     true
 }
 
+// The number of the unlimited dimension, or the number of dimensions where there is none.
+pub fn unlimited(t: &Tables) -> usize
+    requires { t.now.ndims ≤ 32 }
+    ensures { result ≡ unlimited t.now }
+{
+    // A loop: an adaptor hands out `Option<&T>`, which is laid out otherwise in wasm32.
+    for i in 0..t.ndims {
+        let d = &t.dims[i];
+        if d.length == 0 {
+            return i;
+        }
+    }
+    t.ndims
+}
+
 fn one_unlimited(t: &Tables) -> bool
     requires { t.now.ndims ≤ 32 }
     ensures { result ≡ one_unlimited t.now }
 {
-    let unlimited = dims(t).iter().filter(|d| d.length == 0).count();
-    unlimited <= 1
+    let mut many: usize = 0;
+    for d in dims(t) {
+        if d.length == 0 {
+            many += 1;
+        }
+    }
+    many <= 1
 }
 
 // Whether each id of a variable names one of the dimensions, and the unlimited one stands only first.
@@ -43,12 +64,13 @@ fn row_ids_hold(dims: &[Dim], v: &Var) -> bool
     requires { v.now.rank ≤ 8 }
     ensures { result ≡ row_ids_hold dims.now v.now }
 {
-    for (k, id) in v.ids[..v.rank as usize].iter().enumerate() {
-        let Some(d) = dims.get(*id as usize) else {
+    for k in 0..v.rank as usize {
+        let id = v.ids[k] as usize;
+        if dims.len() <= id {
             return false;
-        };
+        }
         let later = 0 < k;
-        if later && d.length == 0 {
+        if later && dims[id].length == 0 {
             return false;
         }
     }

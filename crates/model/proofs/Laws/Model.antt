@@ -1,24 +1,23 @@
 -- Laws of the model rules.
 use Prim.Native.Nat.{ℕ, ◌+◌, ◌≤◌, ◌<◌}
 use native.Mathlib.Omega.{arith}
-use mathlib.Core.Path.{◌≡◌, refl, sym, ap, ◌∙◌}
+use mathlib.Core.Path.{◌≡◌, sym, ap, ◌∙◌}
 use mathlib.Core.Logic.{⊎_elim}
 use mathlib.Core.Bool.{Bool, true, false, ◌&&◌, not, and-false, or-true}
-use mathlib.Core.List.{List, [], ◌∷◌}
+use mathlib.Core.List.{List}
 use lib.ListN.{get_or, length, take, drop}
 use lib.Dec.{ltb, leb, eqb}
-use native.Mathlib.Nat.{zero-add}
-use Rattle.std.specs.List.{list_all, count_by, enumerate_from}
+use Rattle.std.specs.List.{list_any, count_by}
 use Rattle.std.proofs.lemmas.List.{get_or-map, get_or-take, get_or-drop, length-take-le, length-drop}
-use Rattle.std.proofs.lemmas.List.FromFn.{length-enumerate_from, get_or-enumerate_from}
-use Rattle.model.proofs.Laws.Rows.{all-same, any-same, any-rows, all-list, one-of}
+use Rattle.model.proofs.Laws.Rows.{all-same, any-same, any-rows, one-of}
 use Rattle.model.specs.Inner.Rows.{nth_span, new_after, id_among, row_ids_hold}
+use Rattle.model.specs.Inner.Unlimited.{unlimited}
 use borrow.Author.Tests.{lt-ltb, le-ltb, eq-eqb, ne_eqb}
-use Rattle.cdf.specs.Below.{all_below, any_below}
+use Rattle.cdf.specs.Below.{all_below, any_below, first_where}
 use Rattle.items.specs.Name.{same_bytes}
-use Rattle.cdf.proofs.Laws.Below.{order, both, all_hold, one-fails}
-use Rattle.grammar.specs.Tables.{no_dim, var_at, id_at}
-use Rattle.model.specs.Model.{same_name, is_new, distinct, dim_names, var_names, attr_names, names_hold, one_unlimited, id_holds, ids_hold, model_holds}
+use Rattle.cdf.proofs.Laws.Below.{order, both, all_hold, one-fails, first-none, first-is, any-first, none_first}
+use Rattle.grammar.specs.Tables.{no_dim, dim_at, var_at, id_at}
+use Rattle.model.specs.Model.{same_name, is_new, distinct, dim_names, var_names, attr_names, names_hold, is_unlimited, one_unlimited, id_holds, ids_hold, model_holds}
 use Rattle.model.specs.declared.names.Span.{Span}
 use Rattle.grammar.specs.declared.tables.Dim.{Dim}
 use Rattle.grammar.specs.declared.tables.Var.{Var}
@@ -33,38 +32,56 @@ module _ (s : List ℕ) (a b : Span) where
   unfolding same_name
   same_length n = rw (ne_eqb a.chars b.chars n)
 
+-- a name after the rows before it
+module _ {X : Type 0} (s : List ℕ) (span : X → Span) (before : List X) (name : Span) where
+  -- a row has the name
+  abbrev pub Has : X → Bool
+  Has r = same_name s (span r) name
+
+  -- the i-th row, as the code has it
+  pub has-row : (i : ℕ) {r : X} {n : Span} {b : Bool} → r ≡ get_or before i r → n ≡ span r → b ≡ same_name s n name → Has (get_or before i r) ≡ b
+  has-row i e f g = ap Has (sym e) ∙ ap (λ (n : Span). same_name s n name) (sym f) ∙ sym g
+
+  pub new-empty : name.chars ≡ 0 → false ≡ new_after s span before name
+  unfolding new_after
+  new-empty e = rw (le-ltb 0 name.chars (omega arith))
+
+  pub new-twice : list_any Has before ≡ true → false ≡ new_after s span before name
+  unfolding new_after
+  new-twice e = rw e (sym (and-false (ltb 0 name.chars)))
+
+  pub new-alone : (name.chars ≡ 0 → ⊥) → list_any Has before ≡ false → true ≡ new_after s span before name
+  unfolding new_after
+  new-alone n e = rw (lt-ltb 0 name.chars (omega arith), e)
+
 -- whether a row's name is new, by the rows before it
 module _ {X : Type 0} (s : List ℕ) (span : X → Span) (rows : List X) where
-  abbrev pub IsNew : ℕ × X → Bool
-  IsNew p = new_after s span (take p.0 rows) (span p.1)
-
   nth : (i : ℕ) (d : X) → i < length rows → nth_span span rows i ≡ span (get_or rows i d)
   nth i d l = get_or-map span rows i d _ l
 
-  new_at : (i : ℕ) (d : X) → i < length rows → IsNew (get_or (enumerate_from 0 rows) i (0, d)) ≡ is_new s (nth_span span rows) i
+  new_at : (i : ℕ) (d : X) → i < length rows → new_after s span (take i rows) (span (get_or rows i d)) ≡ is_new s (nth_span span rows) i
   unfolding is_new new_after
   new_at i d l =
       let x = get_or rows i d in
-      ap IsNew (get_or-enumerate_from 0 rows i (0, d) l)
-      ∙ ap (λ (j : ℕ). IsNew (j, x)) (zero-add i)
-      ∙ ap
+      ap
       (λ (b : Bool). ltb 0 (span x).chars && not b)
       (any-rows (λ r. same_name s (span r) (span x)) rows d i (omega arith)
       ∙ any-same _ (λ j. same_name s (nth_span span rows j) (span x)) i (λ j m. ap (λ (n : Span). same_name s n (span x)) (sym (nth j d (omega arith)))))
       ∙ ap (λ (n : Span). ltb 0 n.chars && not (any_below i (λ j. same_name s (nth_span span rows j) n))) (sym (nth i d l))
 
-  pub distinct-by : list_all IsNew (enumerate_from 0 rows) ≡ distinct s (nth_span span rows) (length rows)
-  unfolding distinct all_below
-  distinct-by = by rows refl
-    where
-      by : (r : List X) → rows ≡ r → list_all IsNew (enumerate_from 0 rows) ≡ all_below (length rows) (is_new s (nth_span span rows))
-      by [] e =
-          let none : true ≡ all_below (length rows) (is_new s (nth_span span rows)) = sym (ap (λ (r : List X). all_below (length r) (is_new s (nth_span span rows))) e) in
-          ap (λ (r : List X). list_all IsNew (enumerate_from 0 r)) e ∙ none
-      by (x ∷ xs) e =
-          all-list IsNew (enumerate_from 0 rows) (0, x)
-          ∙ ap (λ (n : ℕ). all_below n (λ i. IsNew (get_or (enumerate_from 0 rows) i (0, x)))) (length-enumerate_from 0 rows)
-          ∙ all-same _ _ (length rows) (λ i l. new_at i x l)
+  -- the same of the i-th row, as the code has it
+  pub new-row : (i : ℕ) {r : X} {n : Span} {b : Bool} → i < length rows → r ≡ get_or rows i r → n ≡ span r → b ≡ new_after s span (take i rows) n → is_new s (nth_span span rows) i ≡ b
+  new-row i {r} l e f g =
+      sym (new_at i r l) ∙ ap (λ (x : X). new_after s span (take i rows) (span x)) (sym e) ∙ ap (new_after s span (take i rows)) (sym f) ∙ sym g
+
+module _ (s : List ℕ) (names : ℕ → Span) (n : ℕ) where
+  pub distinct-all : ((i : ℕ) → i < n → is_new s names i ≡ true) → true ≡ distinct s names n
+  unfolding distinct
+  distinct-all h = sym (all_hold (is_new s names) n h)
+
+  pub distinct-not : (i : ℕ) → i < n → is_new s names i ≡ false → false ≡ distinct s names n
+  unfolding distinct
+  distinct-not i l e = sym (one-fails (is_new s names) n i l e)
 
 module _ (s : List ℕ) (f g : ℕ → Span) where
   -- names that agree below n
@@ -94,6 +111,25 @@ module _ {X : Type 0} (s : List ℕ) (span : X → Span) (rows : List X) (d : X)
 pub one_unlimited-by : (t : Tables) {ds : List Dim} → ds ≡ take t.ndims t.dims → length ds ≡ t.ndims → leb (count_by (λ d. eqb d.length 0) ds) 1 ≡ one_unlimited t
 unfolding one_unlimited
 one_unlimited-by t e n = one-of (λ d. eqb d.length 0) t.dims no_dim t.ndims e n
+
+-- the first unlimited dimension
+module _ (t : Tables) where
+  pub unlimited-none : ((i : ℕ) → i < t.ndims → (dim_at t i).length ≡ 0 → ⊥) → t.ndims ≡ unlimited t
+  unfolding unlimited
+  unlimited-none h = sym (first-none _ t.ndims (λ i l. ne_eqb (dim_at t i).length 0 (h i l)))
+
+  pub unlimited-is : (i : ℕ) → i < t.ndims → ((k : ℕ) → k < i → (dim_at t k).length ≡ 0 → ⊥) → (dim_at t i).length ≡ 0 → i ≡ unlimited t
+  unfolding unlimited
+  unlimited-is i l h e = sym (first-is _ t.ndims i l (λ k m. ne_eqb (dim_at t k).length 0 (h k m)) (eq-eqb (dim_at t i).length 0 e))
+
+  -- there is one where its number is that of a dimension
+  pub unlimited-some : ltb (unlimited t) t.ndims ≡ any_below t.ndims (is_unlimited t)
+  unfolding unlimited
+  unlimited-some =
+      ⊎_elim
+      (λ (h : t.ndims ≤ first_where t.ndims (is_unlimited t)). le-ltb _ t.ndims h ∙ sym (none_first (is_unlimited t) t.ndims h))
+      (λ (h : first_where t.ndims (is_unlimited t) < t.ndims). lt-ltb _ t.ndims h ∙ sym (any-first (is_unlimited t) t.ndims h))
+      (order t.ndims (first_where t.ndims (is_unlimited t)))
 
 -- the names of the tables, by their lists
 module _ (s : List ℕ) (t : Tables) where

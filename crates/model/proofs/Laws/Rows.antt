@@ -15,6 +15,7 @@ use Rattle.std.proofs.lemmas.List.{get_or-take, take_all, length-take}
 use Rattle.std.proofs.lemmas.List.Folds.{list_all_more, list_any_more}
 use Rattle.std.proofs.lemmas.List.FromFn.{length-range_with_len, get_or-range_with_len}
 use Rattle.cdf.specs.Below.{all_below, any_below}
+use Rattle.cdf.proofs.Laws.Below.{some_holds}
 
 -- a row among the first n of a list
 module _ {X : Type 0} (n : ℕ) (xs : List X) (i : ℕ) (d : X) where
@@ -64,6 +65,13 @@ module _ {X : Type 0} (p : X → Bool) (xs : List X) (d : X) where
 
   pub any-list : list_any p xs ≡ any_below (length xs) (λ i. p (get_or xs i d))
   any-list = ap (list_any p) (sym (take_all (length xs) xs (omega arith))) ∙ any-rows (length xs) (omega arith)
+
+  -- the rows one by one: none of the first n passes, nor does the next; one does
+  pub any-more : (n : ℕ) → n < length xs → list_any p (take n xs) ≡ false → p (get_or xs n d) ≡ false → list_any p (take (n + 1) xs) ≡ false
+  any-more n h e f = list_any_more p xs n d h ∙ rw (e, f)
+
+  pub any-found : (n : ℕ) → n < length xs → p (get_or xs n d) ≡ true → list_any p xs ≡ true
+  any-found n h e = any-list ∙ some_holds (λ i. p (get_or xs i d)) (length xs) n h e
 
   -- so many of the first n rows pass
   abbrev pub Counted : ℕ → ℕ
@@ -122,6 +130,10 @@ module _ {X : Type 0} (p : X → Bool) (xs : List X) (d : X) where
 
     pub one-of : leb (count_by p ys) 1 ≡ all_below n (λ i. not (p (get_or xs i d) && any_below i (λ j. p (get_or xs j d))))
     one-of = ap (λ (zs : List X). leb (count_by p zs) 1) rows ∙ one-counted n enough
+
+-- none of all rows passes, where all were tried
+pub any-none : {X : Type 0} (p : X → Bool) (xs : List X) (n : ℕ) → length xs ≤ n → list_any p (take n xs) ≡ false → list_any p xs ≡ false
+any-none p xs n h e = ap (list_any p) (sym (take_all n xs h)) ∙ e
 
 -- the numbers from 0 on
 pub all-range : (p : ℕ → Bool) (n : ℕ) → list_all p (range_with_len 0 n) ≡ all_below n p
