@@ -12,13 +12,13 @@ use crate::records::Sizes;
 use cdf::refusal::Refusal;
 use cdf::word::INDETERMINATE;
 use model::checked::Checked;
-use model::rows::dims;
+use model::rules::unlimited;
 
 // Whether there is an unlimited dimension.
 fn has_unlimited(t: Checked) -> bool
     ensures { result ≡ has_unlimited t.entry.tables.now }
 {
-    dims(t.tables).iter().any(|d| d.length == 0)
+    unlimited(t.tables) < t.tables.ndims
 }
 
 // The count of tables whose record size is `step`, but where it follows from the file's size; with no record variable the record size is 0.

@@ -50,10 +50,8 @@ fn times(a: u64, b: u64) -> u64
 fn length_of(dims: &[Dim], id: u32) -> u32
     ensures { result ≡ (get_or dims.now id no_dim).length }
 {
-    match dims.get(id as usize) {
-        Some(d) => d.length,
-        None => 0,
-    }
+    let id = id as usize;
+    if id < dims.len() { dims[id].length } else { 0 }
 }
 
 // Whether the unlimited dimension stands first.

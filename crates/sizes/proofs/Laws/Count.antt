@@ -12,17 +12,14 @@ use Rattle.cdf.specs.Step.{Step, got, stop}
 use Rattle.cdf.specs.Below.{all_below, any_below}
 use Rattle.cdf.proofs.Laws.Step.{by-true, by-false}
 use Rattle.cdf.proofs.Laws.Below.{order, both, all_hold, holds_at}
-use Rattle.grammar.specs.Tables.{no_dim, var_at}
-use lib.ListN.{length, take}
-use Rattle.std.specs.List.{list_any}
-use Rattle.model.proofs.Laws.Rows.{any-of}
+use Rattle.grammar.specs.Tables.{var_at}
+use Rattle.model.specs.Inner.Unlimited.{unlimited}
+use Rattle.model.proofs.Laws.Model.{unlimited-some}
 use Rattle.grammar.specs.Inner.Within.{Shaped}
 use Rattle.model.specs.Model.{ids_hold}
 use Rattle.sizes.specs.Inner.Sizes.{placed, divided, capped, largest, first_end, fixed_ends, fixed_ends_hold, record_end, added, still_holds, ends_in, sizes_of}
 use Rattle.sizes.specs.Records.{smallest, total, is_record, padded_bytes, record_part, record_size, max_position, max_chunk, sizes_hold, end_of, ends_hold}
 use Rattle.sizes.specs.Count.{has_unlimited, has_records, first_begin, count_or, record_count}
-use mathlib.Core.List.{List}
-use Rattle.grammar.specs.declared.tables.Dim.{Dim}
 use Rattle.grammar.specs.declared.tables.Tables.{Tables}
 use Rattle.sizes.specs.declared.records.Sizes.{Sizes}
 use Rattle.std.proofs.Common.{Option, Some, None}
@@ -219,7 +216,7 @@ module _ (size first step : ℕ) where
   unfolding divided
   divided-even h e = by-true _ (le-leb first size h) (by-true _ (eq-eqb _ _ e) refl)
 
--- whether a dimension is unlimited, by the rows
-pub has_unlimited-by : (t : Tables) {ds : List Dim} → ds ≡ take t.ndims t.dims → length ds ≡ t.ndims → list_any (λ d. eqb d.length 0) ds ≡ has_unlimited t
+-- whether a dimension is unlimited, by the number of the first that is
+pub has_unlimited-by : (t : Tables) {n : ℕ} → n ≡ unlimited t → ltb n t.ndims ≡ has_unlimited t
 unfolding has_unlimited
-has_unlimited-by t e n = any-of (λ d. eqb d.length 0) t.dims no_dim t.ndims e n
+has_unlimited-by t e = ap (λ (n : ℕ). ltb n t.ndims) e ∙ unlimited-some t
