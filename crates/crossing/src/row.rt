@@ -105,8 +105,9 @@ fn put_ids(ids: &[u32; 8], out: &mut [u64])
     requires { length out.old ≡ 8 }
     ensures { out.new ≡ tab (λ k. get_or ids.now k 0) 8 }
 {
-    for (k, id) in ids.iter().enumerate() {
-        out[k] = *id as u64;
+    // A loop over numbers: an adaptor hands out `Option<&T>`, which is laid out otherwise in wasm32.
+    for k in 0..8 {
+        out[k] = ids[k] as u64;
     }
 }
 
@@ -115,8 +116,8 @@ fn take_ids(words: &[u64]) -> Option<[u32; 8]>
     ensures { result ≡ when (ids_fit words.now) (tab (word_at words.now) 8) }
 {
     let mut ids = [0; 8];
-    for (k, id) in ids.iter_mut().enumerate() {
-        *id = u32::try_from(words[k]).ok()?;
+    for k in 0..8 {
+        ids[k] = u32::try_from(words[k]).ok()?;
     }
     Some(ids)
 }
@@ -169,9 +170,9 @@ pub(crate) fn store_rows<R: Row>(rows: &[R], out: &mut [u64])
     requires { length out.old ≡ R.WORDS * length rows.now }
     ensures { out.new ≡ flat_map R.numbers rows.now }
 {
-    for (i, row) in rows.iter().enumerate() {
+    for i in 0..rows.len() {
         let at = i * R::WORDS;
-        row.put(&mut out[at..at + R::WORDS]);
+        rows[i].put(&mut out[at..at + R::WORDS]);
     }
 }
 
@@ -180,9 +181,9 @@ pub(crate) fn load_rows<R: Row>(words: &[u64], rows: &mut [R]) -> Option<()>
     requires { length words.now ≡ R.WORDS * length rows.old }
     ensures { Taken (length rows.old) (λ k. R.in_fields (R.said words.now (R.WORDS * k))) (λ k. R.said words.now (R.WORDS * k)) result rows.new }
 {
-    for (i, row) in rows.iter_mut().enumerate() {
+    for i in 0..rows.len() {
         let at = i * R::WORDS;
-        *row = R::take(&words[at..at + R::WORDS])?;
+        rows[i] = R::take(&words[at..at + R::WORDS])?;
     }
     Some(())
 }

@@ -7,13 +7,13 @@ use Rattle.crossing.proofs.row.take_ids.Goals as goal
 pub loop-k-init : goal.loop-k-init
 loop-k-init c = loading-none _ _ _ refl
 
-pub returns-in_err-id : goal.returns-in_err-id
+pub returns-in_err-ids : goal.returns-in_err-ids
 unfolding ids_fit
-returns-in_err-id c = simp (loading-stop _ _ c.loop-k.invariant c.loop-k-test.true (too_wide _ _ _ c.try_from.ensures c.ok.ensures.value c.in_err-id.was)) c.from_residual.ensures
+returns-in_err-ids c = simp (loading-stop _ _ c.loop-k.invariant c.loop-k-test.true (too_wide _ _ _ c.try_from.ensures c.ok.ensures.value c.in_err-ids.was)) c.from_residual.ensures
 
 pub loop-k-preserved : goal.loop-k-preserved
 loop-k-preserved c =
-    let a = narrow _ _ _ c.try_from.ensures c.ok.ensures.value c.in_ok-id.was in
+    let a = narrow _ _ _ c.try_from.ensures c.ok.ensures.value c.in_ok-ids.was in
     loading-more _ _ c.loop-k.invariant c.loop-k-test.true a.0 a.1
 
 pub returns : goal.returns
