@@ -1,11 +1,12 @@
 -- Laws of element reads.
-use Prim.Native.Nat.{ℕ, ◌+◌, ◌-◌, ◌≤◌}
+use Prim.Native.Nat.{ℕ, ◌+◌, ◌-◌, ◌≤◌, ◌<◌}
 use native.Mathlib.Omega.{arith}
 use mathlib.Core.Path.{◌≡◌, refl, sym, ap, ◌∙◌}
 use mathlib.Core.Bool.{Bool, true, false}
-use mathlib.Core.List.{List}
+use mathlib.Core.List.{List, [], ◌∷◌}
 use lib.ListN.{length}
-use Rattle.std.specs.Prelude.{Option, Some}
+use Rattle.std.specs.Prelude.{Option, Some, None}
+use Rattle.std.proofs.lemmas.List.{get_or_past}
 use Rattle.bigendian.specs.Number.{be}
 use Rattle.cdf.specs.Step.{Step, got, bind, test, need, into}
 use Rattle.cdf.proofs.Laws.Step.{by-got, test-came, got_same, test-same, bind-need, bind-got}
@@ -15,6 +16,8 @@ use Rattle.reads.specs.Reads.{element_at, bits, holds}
 use Rattle.reads.specs.Inner.Spot.{element_spot}
 use Rattle.reads.specs.Element.{value_of, valued, element_with, element_of}
 use Rattle.reads.specs.declared.element.Value.{Value}
+use Rattle.reads.specs.declared.element.Value.TheVariants.{Byte, Char, Short, Int, Float, Double}
+use Rattle.decode.specs.Decoded.{byte, short, int, float, double}
 use Rattle.found.specs.declared.variable.Spread.{Spread}
 use Rattle.reads.proofs.Laws.Reads.{held}
 
@@ -47,6 +50,14 @@ module _ (s : List ℕ) (start r e : ℕ) (v : Spread) where
 
     pub spot_got : {A : Type 0} {b : ℕ} (f : ℕ → ℕ → A) → b ≡ be (size_of v.code) s p → got (f v.code b) 0 ≡ element_with f s start r e v
     spot_got f q = ap (λ (n : ℕ). got (f v.code n) 0) (q ∙ bits-there) ∙ by-got _ _ spot refl ∙ spot_parts f
+
+-- no type has the code 0, nor one above 6: no value stands for it
+pub valueless-zero : (b : ℕ) → value_of 0 b ≡ None
+valueless-zero b = refl
+
+pub valueless-above : (b code : ℕ) → 6 < code → value_of code b ≡ None
+valueless-above b code h =
+    get_or_past (None ∷ Some (Byte (byte b)) ∷ Some (Char b) ∷ Some (Short (short b)) ∷ Some (Int (int b)) ∷ Some (Float (float b) b) ∷ Some (Double (double b) b) ∷ []) code None h
 
 -- each code of a type has a value, so an element of a variable that has a type answers one
 valued-got : (b code : ℕ) → 1 ≤ code → code ≤ 6 → into Some (valued (value_of code b)) ≡ got (value_of code b) 0
