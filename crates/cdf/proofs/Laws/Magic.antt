@@ -1,5 +1,5 @@
 -- Laws of the first four bytes, and of bytes at hand that begin a pattern.
-use Prim.Native.Nat.{ℕ, zero, suc, ◌+◌, ◌-◌, ◌≤◌, ◌<◌, min}
+use Prim.Native.Nat.{ℕ, suc, ◌+◌, ◌-◌, ◌≤◌, ◌<◌, min}
 use mathlib.Core.Path.{◌≡◌, refl, ap, sym, ◌∙◌}
 use mathlib.Core.Bool.{Bool, true, false, ◌&&◌, ◌||◌, or-true}
 use mathlib.Core.Logic.{◌⊎◌, ⊎_elim}
@@ -8,7 +8,6 @@ use native.Mathlib.Omega.{arith}
 use lib.ListN.{length, get_or, take, drop, length-drop}
 use Rattle.std.proofs.lemmas.List.{take_rest, get_or-drop}
 use Rattle.std.specs.List.{list_all, zip}
-use Rattle.std.specs.Cmp.Lexicographic.{pointwise}
 use Rattle.std.specs.Bool.{◌==◌}
 use lib.Dec.{leb, eqb, leb-suc-suc, leb-suc-zero}
 use borrow.Author.Tests.{lt-leb, le-leb, eq-eqb, ne_eqb, eqb-true}
@@ -23,13 +22,6 @@ either : (a b : Bool) → a ≡ false → (a || b) ≡ true → b ≡ true
 either true b e h = let z : ◌≡◌ {A = Bool} true false = e in cc
 either false b e h = h
 
--- the parts of a text and of a pattern as far as both go
-pub agree-parts : (xs t : List ℕ) (n : ℕ) → n ≡ min (length xs) (length t) → pointwise eqb (take n xs) (take n t) ≡ list_all (λ x. x.0 == x.1) (zip xs t)
-agree-parts [] t n e = let z : n ≡ 0 = omega arith in rw z
-agree-parts (x ∷ xs) [] n e = let z : n ≡ 0 = omega arith in rw z
-agree-parts (x ∷ xs) (y ∷ t) zero e = absurd (omega arith)
-agree-parts (x ∷ xs) (y ∷ t) (suc n) e = ap (λ (b : Bool). eqb x y && b) (agree-parts xs t n (omega arith))
-
 -- a text that agrees with a pattern as far as both go, by the pattern's numbers
 agree-below : (xs t : List ℕ) → list_all (λ x. x.0 == x.1) (zip xs t) ≡ all_below (length t) (λ i. leb (length xs) i || eqb (get_or xs i 0) (get_or t i 0))
 agree-below [] t = sym (all_hold _ (length t) (λ i _. rw (le-leb 0 i (omega arith))))
@@ -38,6 +30,22 @@ agree-below (x ∷ xs) (y ∷ t) =
     ap (λ (b : Bool). eqb x y && b) (agree-below xs t ∙ same-below (length t) _ _ (λ i _. rw (leb-suc-suc (length xs) i)))
     ∙ ap (λ (b : Bool). (b || eqb x y) && all_below (length t) (λ i. leb (length (x ∷ xs)) (suc i) || eqb (get_or xs i 0) (get_or t i 0))) (sym (leb-suc-zero (length xs)))
     ∙ sym (first-apart (length t) (λ i. leb (length (x ∷ xs)) i || eqb (get_or (x ∷ xs) i 0) (get_or (y ∷ t) i 0)))
+
+-- no byte departs as far as both go, or one does
+module _ (xs t : List ℕ) where
+  pub agree-all : ((i : ℕ) → i < min (length xs) (length t) → get_or xs i 0 ≡ get_or t i 0) → true ≡ list_all (λ x. x.0 == x.1) (zip xs t)
+  agree-all h =
+      sym
+      (agree-below xs t
+      ∙ all_hold _ (length t)
+      (λ i l.
+      ⊎_elim
+      (λ (p : length xs ≤ i). rw (le-leb (length xs) i p))
+      (λ (p : i < length xs). rw (eq-eqb (get_or xs i 0) (get_or t i 0) (h i (omega arith))) (or-true (leb (length xs) i)))
+      (order (length xs) i)))
+
+  pub agree-not : (i : ℕ) → i < min (length xs) (length t) → (get_or xs i 0 ≡ get_or t i 0 → ⊥) → false ≡ list_all (λ x. x.0 == x.1) (zip xs t)
+  agree-not i l n = sym (agree-below xs t ∙ one-fails _ (length t) i (omega arith) (rw (lt-leb (length xs) i (omega arith), ne_eqb (get_or xs i 0) (get_or t i 0) n)))
 
 module _ (t s : List ℕ) (at : ℕ) where
   fits : ℕ → Bool

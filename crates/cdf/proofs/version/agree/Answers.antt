@@ -1,6 +1,9 @@
-use Rattle.std.proofs.Common.{◌∙◌}
-use Rattle.cdf.proofs.Laws.Magic.{agree-parts}
+use Rattle.std.proofs.Common.{arith}
+use Rattle.cdf.proofs.Laws.Magic.{agree-all, agree-not}
 use Rattle.cdf.proofs.version.agree.Goals as goal
 
+pub returns-then-bytes-i : goal.returns-then-bytes-i
+returns-then-bytes-i c = agree-not c.args.bytes.now c.args.pattern.now c.loop-i.i (omega arith) c.if-bytes-i.true
+
 pub returns : goal.returns
-returns c = c.eq.ensures ∙ agree-parts _ _ _ c.min-both.ensures
+returns c = agree-all _ _ (λ k l. c.loop-i.invariant k (omega arith))
