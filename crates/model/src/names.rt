@@ -1,5 +1,6 @@
 // Names of one list: none empty, none twice.
 ghost use Rattle.std.specs.Prelude.{◌≡◌, ◌+◌, length, get_or};
+ghost use Rattle.std.specs.List.{list_any};
 ghost use Rattle.items.specs.Name.{same_bytes};
 ghost use Rattle.model.specs.Model.{same_name, distinct};
 ghost use Rattle.model.specs.Inner.Rows.{nth_span, new_after};
@@ -68,7 +69,8 @@ fn same_bytes(s: &[u8], a: usize, b: usize, n: usize) -> bool
     ensures { result ≡ same_bytes s.now a s.now b n }
 {
     let len = s.len();
-    if a <= len && n <= len - a && b <= len && n <= len - b {
+    // `b` first: where it is the same name in each turn of a loop, so is its test
+    if b <= len && n <= len - b && a <= len && n <= len - a {
         return s[a..a + n] == s[b..b + n];
     }
     (0..n).all(|i| byte_at(s, a, i) == byte_at(s, b, i))
@@ -82,20 +84,24 @@ fn same_name(s: &[u8], a: Span, b: Span) -> bool
     a.chars == b.chars && same_bytes(s, a.at, b.at, a.chars as usize)
 }
 
+// Whether one of the rows has the name.
+fn taken<R: Named>(s: &[u8], rows: &[R], name: Span) -> bool
+    ensures { result ≡ list_any (λ r. same_name s.now (R.span_of r) name) rows.now }
+{
+    // A loop: an adaptor hands out `Option<&T>`, which is laid out otherwise in wasm32.
+    for row in rows {
+        if same_name(s, row.span(), name) {
+            return true;
+        }
+    }
+    false
+}
+
 // Whether a name is not empty and none of the rows before it has it.
 fn is_new<R: Named>(s: &[u8], before: &[R], name: Span) -> bool
     ensures { result ≡ new_after s.now R.span_of before.now name }
 {
-    if name.chars == 0 {
-        return false;
-    }
-    // A loop: an adaptor hands out `Option<&T>`, which is laid out otherwise in wasm32.
-    for row in before {
-        if same_name(s, row.span(), name) {
-            return false;
-        }
-    }
-    true
+    0 < name.chars && !taken(s, before, name)
 }
 
 // Whether no row's name is empty or stands before.

@@ -7,7 +7,7 @@ use mathlib.Core.Bool.{Bool, true, false, ◌&&◌, not, and-false, or-true}
 use mathlib.Core.List.{List}
 use lib.ListN.{get_or, length, take, drop}
 use lib.Dec.{ltb, leb, eqb}
-use Rattle.std.specs.List.{list_any, count_by}
+use Rattle.std.specs.List.{count_by}
 use Rattle.std.proofs.lemmas.List.{get_or-map, get_or-take, get_or-drop, length-take-le, length-drop}
 use Rattle.model.proofs.Laws.Rows.{all-same, any-same, any-rows, one-of}
 use Rattle.model.specs.Inner.Rows.{nth_span, new_after, id_among, row_ids_hold}
@@ -32,7 +32,7 @@ module _ (s : List ℕ) (a b : Span) where
   unfolding same_name
   same_length n = rw (ne_eqb a.chars b.chars n)
 
--- a name after the rows before it
+-- a name among rows
 module _ {X : Type 0} (s : List ℕ) (span : X → Span) (before : List X) (name : Span) where
   -- a row has the name
   abbrev pub Has : X → Bool
@@ -41,18 +41,6 @@ module _ {X : Type 0} (s : List ℕ) (span : X → Span) (before : List X) (name
   -- the i-th row, as the code has it
   pub has-row : (i : ℕ) {r : X} {n : Span} {b : Bool} → r ≡ get_or before i r → n ≡ span r → b ≡ same_name s n name → Has (get_or before i r) ≡ b
   has-row i e f g = ap Has (sym e) ∙ ap (λ (n : Span). same_name s n name) (sym f) ∙ sym g
-
-  pub new-empty : name.chars ≡ 0 → false ≡ new_after s span before name
-  unfolding new_after
-  new-empty e = rw (le-ltb 0 name.chars (omega arith))
-
-  pub new-twice : list_any Has before ≡ true → false ≡ new_after s span before name
-  unfolding new_after
-  new-twice e = rw e (sym (and-false (ltb 0 name.chars)))
-
-  pub new-alone : (name.chars ≡ 0 → ⊥) → list_any Has before ≡ false → true ≡ new_after s span before name
-  unfolding new_after
-  new-alone n e = rw (lt-ltb 0 name.chars (omega arith), e)
 
 -- whether a row's name is new, by the rows before it
 module _ {X : Type 0} (s : List ℕ) (span : X → Span) (rows : List X) where

@@ -1,21 +1,23 @@
-use Rattle.std.proofs.Common.{◌∙◌}
-use Rattle.model.proofs.Laws.Rows.{any-more, any-found, any-none}
-use Rattle.model.proofs.Laws.Model.{has-row, new-empty, new-twice, new-alone}
+use Rattle.std.proofs.Common.{◌≡◌, Bool, not, ap, sym, ◌∙◌, ltb, false, ◌&&◌}
+use borrow.Author.Tests.{lt-ltb, le-ltb}
+use Rattle.std.specs.List.{list_any}
+use Rattle.model.specs.Model.{same_name}
+use Rattle.model.specs.Inner.Rows.{new_after}
 use Rattle.model.proofs.names.is_new.Goals as goal
 
-pub returns-then-name-eq0 : goal.returns-then-name-eq0
-returns-then-name-eq0 g c = new-empty _ _ _ _ c.if-name-eq0.true
+-- the test of the rows before, where the name is not empty, and where it is
+pub returns-then-name-gt0 : goal.returns-then-name-gt0
+unfolding new_after
+returns-then-name-gt0 g c =
+    let s = c.args.s.now in
+    let n = c.args.name in
+    ap not c.taken.ensures
+    ∙ ap (λ (b : Bool). b && not (list_any (λ r. same_name s (g.R.Named.span_of r) n) c.args.before.now)) (sym (lt-ltb 0 n.chars c.if-name-gt0.true))
 
-pub returns-then-same_name : goal.returns-then-same_name
-returns-then-same_name g c =
-    let rows = c.args.before.now in
-    new-twice _ _ _ _
-    (any-found _ _ c.row-item.result _ c.loop-row-test.true (has-row _ g.R.Named.span_of rows _ c.loop-row.row-index c.row-item.is c.span.ensures c.same_name.ensures ∙ c.if-same_name.true))
-
-pub loop-row-preserved : goal.loop-row-preserved
-loop-row-preserved g c =
-    let rows = c.args.before.now in
-    any-more _ _ c.row-item.result _ c.loop-row-test.true c.loop-row.invariant (has-row _ g.R.Named.span_of rows _ c.loop-row.row-index c.row-item.is c.span.ensures c.same_name.ensures ∙ c.if-same_name.false)
-
-pub returns : goal.returns
-returns g c = new-alone _ _ _ _ c.if-name-eq0.false (any-none _ _ _ c.loop-row-test.false c.loop-row.invariant)
+pub returns-else-name-gt0 : goal.returns-else-name-gt0
+unfolding new_after
+returns-else-name-gt0 g c =
+    let s = c.args.s.now in
+    let n = c.args.name in
+    let e : ltb 0 n.chars ≡ false = le-ltb 0 n.chars c.if-name-gt0.false in
+    e ∙ ap (λ (b : Bool). b && not (list_any (λ r. same_name s (g.R.Named.span_of r) n) c.args.before.now)) (sym e)
