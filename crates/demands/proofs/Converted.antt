@@ -21,7 +21,7 @@ use Rattle.rules.proofs.Laws.Views.{fits-see, fits-tell, range-see, range-tell}
 use Rattle.model.specs.Model.{ids_hold, model_holds}
 use Rattle.sizes.specs.Records.{sizes_hold, ends_hold, max_position}
 use Rattle.order.specs.Writable.{rows_inside, to_write, count_holds, size_holds, writable}
-use Rattle.order.proofs.Laws.Rows.{FullRows}
+use Rattle.order.specs.Inner.Rows.{FullRows}
 use Rattle.header.specs.Header.{read_header}
 use Rattle.header.specs.declared.reader.HeaderAnswer.{HeaderAnswer as Header}
 use Rattle.convert.specs.Convert.{moved, moved_var, moved_tables, new_end, new_tables}

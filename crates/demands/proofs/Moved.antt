@@ -31,7 +31,7 @@ use Rattle.model.specs.Model.{is_unlimited, dim_names, var_names, attr_names, di
 use Rattle.sizes.specs.Records.{smallest, is_record, record_size, sizes_hold, max_position}
 use Rattle.sizes.specs.Count.{has_unlimited, has_records, is_open, first_begin, record_count}
 use Rattle.order.specs.Writable.{dim_inside, attr_inside, var_inside, rows_inside, to_write, count_holds}
-use Rattle.order.proofs.Laws.Rows.{FullRows}
+use Rattle.order.specs.Inner.Rows.{FullRows}
 use Rattle.convert.specs.Convert.{moved, in_version, moved_var, moved_tables}
 use Rattle.convert.proofs.Laws.Moved.{up_to}
 use Rattle.convert.proofs.Laws.Read.{begin-small, row_is, new-ids}

@@ -10,7 +10,7 @@ use crate::rows::put_list;
 use cdf::list::{ATTRIBUTE_TAG, DIMENSION_TAG, VARIABLE_TAG};
 use cdf::refusal::Refusal;
 use grammar::tables::Tables;
-use order::writable::judged;
+use order::writable::judged_in_place;
 
 // The whole answer: 0 and the header's length, or the number of a refusal and 0.
 #[derive(Clone, Copy, Debug, PartialEq, Eq, Hash)]
@@ -64,7 +64,7 @@ fn put_first(bytes: &mut [u8], text: &[u8], t: &Tables)
 pub fn write_header(t: Tables, text: &[u8], out: &mut [u8]) -> Result<u64, Refusal>
     ensures { Writes out.old (write_header text.now t out.old) result out.new }
 {
-    let Some(length) = judged(text, t) else {
+    let Some(length) = judged_in_place(text, &t) else {
         return Err(Refusal::Tables);
     };
     if (out.len() as u64) < length {

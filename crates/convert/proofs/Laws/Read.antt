@@ -24,7 +24,7 @@ use Rattle.sizes.specs.Records.{total, is_record, chunk, chunk_bytes, record_par
 use Rattle.order.specs.Writable.{rows_inside, to_write}
 use Rattle.order.specs.Inner.Lengths.{header_length}
 use Rattle.order.proofs.Laws.Inside.{Inside, inside}
-use Rattle.order.proofs.Laws.Rows.{FullRows}
+use Rattle.order.specs.Inner.Rows.{FullRows}
 use Rattle.order.proofs.Laws.Read.{laid-inside, laid-full}
 use Rattle.order.proofs.Laws.Lengths.{encoded-length}
 use Rattle.order.proofs.Laws.Said.{model-ids}

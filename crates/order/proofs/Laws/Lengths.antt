@@ -20,7 +20,8 @@ use Rattle.rules.proofs.Laws.Spelled.{length-spelled}
 use Rattle.order.specs.Writable.{to_write}
 use Rattle.order.specs.Inner.Lengths.{padded_length, name_length, dim_length, attr_length, attrs_length, var_length, dims_length, vars_length, header_length}
 use Rattle.order.proofs.Laws.Inside.{Inside}
-use Rattle.order.proofs.Laws.Rows.{FullRows, variable_at, few-attrs, ids-length, few-dims, few-globals, few-vars}
+use Rattle.order.specs.Inner.Rows.{FullRows}
+use Rattle.order.proofs.Laws.Rows.{variable_at, few-attrs, ids-length, few-dims, few-globals, few-vars}
 use Rattle.order.proofs.Laws.Lists.{each-length, sum-map, total-same, sum-take, sum-span}
 
 -- a list with its tag, or absent: eight bytes, and its items

@@ -14,7 +14,7 @@ use Rattle.grammar.proofs.Laws.Tables.{get_or-padded, length-rows}
 use Rattle.rules.proofs.Laws.Views.{EachIs}
 use Rattle.rules.proofs.Laws.Capacity.{DimHeld, AttrHeld, VarHeld, Held}
 use Rattle.grammar.specs.declared.tables.Var.{Var}
-use Rattle.order.proofs.Laws.Rows.{FullRows}
+use Rattle.order.specs.Inner.Rows.{FullRows}
 use Rattle.order.specs.Writable.{dim_inside, attr_inside, var_inside, rows_inside}
 
 -- lists of items that are so

@@ -16,14 +16,8 @@ use Rattle.grammar.specs.Meaning.{Dimension, Attribute, Variable, dimension, att
 use Rattle.grammar.specs.declared.tables.Tables.{Tables}
 use Rattle.rules.proofs.Laws.Views.{EachIs}
 use Rattle.order.specs.Writable.{to_write}
+use Rattle.order.specs.Inner.Rows.{FullRows}
 use Rattle.order.proofs.Laws.Inside.{Inside}
-
--- tables with as many rows as their type has
-pub record FullRows (t : Tables) : Type 0 where
-  pub dims : length t.dims ≡ 32
-  pub attrs : length t.attrs ≡ 128
-  pub vars : length t.vars ≡ 64
-  pub ids : (i : ℕ) → i < t.nvars → i < 64 → length (var_at t i).ids ≡ 8
 
 -- tables that the code has: their arrays have the lengths of their types
 pub full-rows : (t : Tables) (vs : List Val) → shadow ((row the_type).own_val t vs) → FullRows t

@@ -27,7 +27,8 @@ use Rattle.order.specs.Inner.Lengths.{header_length}
 use Rattle.order.specs.Inner.Tests.{open_tested, attr_tested, attrs_tested, dims_tested, vars_tested, attributes_upto, attributes_tested, counts_tested, dim_rows_tested, attr_rows_tested, var_rows_tested, count_tested, sizes_tested, size_tested, tested}
 use Rattle.order.proofs.Laws.Chain.{ended, passed}
 use Rattle.order.proofs.Laws.Inside.{Inside, inside}
-use Rattle.order.proofs.Laws.Rows.{FullRows, few-vars, dims-of, of-dims, dims-length, globals_of, of-globals, globals-length, variable_at, vars-of, of-vars, vars-length, ids-of, ids-length, attrs-of, of-attrs, attrs-length}
+use Rattle.order.specs.Inner.Rows.{FullRows}
+use Rattle.order.proofs.Laws.Rows.{few-vars, dims-of, of-dims, dims-length, globals_of, of-globals, globals-length, variable_at, vars-of, of-vars, vars-length, ids-of, ids-length, attrs-of, of-attrs, attrs-length}
 use Rattle.order.proofs.Laws.Words.{and, dim-see, dim-tell, attr-see, attr-tell, VarIs, var-see, var-tell, WordsAre, words-see, words-tell}
 use Rattle.order.proofs.Laws.Lists.{attributes-length, sum-map, sum-take, total-same}
 use Rattle.order.proofs.Laws.Lengths.{encoded-length}

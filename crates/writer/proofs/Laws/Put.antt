@@ -1,12 +1,12 @@
 -- Laws of bytes that are put into an output.
-use Prim.Native.Nat.{ℕ, zero, suc, ◌+◌, ◌-◌, ◌/◌, ◌%◌, ◌≤◌, ◌<◌}
+use Prim.Native.Nat.{ℕ, zero, suc, ◌+◌, ◌-◌, ◌*◌, ◌/◌, ◌%◌, ◌≤◌, ◌<◌}
 use native.Mathlib.Omega.{arith}
 use native.Mathlib.Nat.{add-zero}
 use native.Mathlib.Numerals.{add-one}
 use mathlib.Core.Path.{◌≡◌, refl, sym, ap, subst, ◌∙◌}
-use mathlib.Core.List.{List, [], ◌∷◌, ◌++◌, append_assoc}
+use mathlib.Core.List.{List, [], ◌∷◌, ◌++◌, append_assoc, append-nil}
 use Rattle.std.specs.Int.{to_be_bytes, byte_at, w64}
-use lib.ListN.{length, take, drop, set, get_or, replicate, length-append, length-set, length-replicate, take-append-drop}
+use lib.ListN.{length, take, drop, set, get_or, replicate, length-append, length-set, length-replicate, length-drop, take-append-drop}
 use lib.Seq.{set-set, take_all, take-suc, set_split, take_at, drop_at, drop-drop, length-take-le}
 use borrow.Author.Tests.{ne_eqb}
 use Rattle.cdf.specs.Form.{form}
@@ -69,6 +69,35 @@ put-more s t more at i c l room e g =
 
 pub put_all : (s t more : List ℕ) (at i : ℕ) → i ≡ length more → Put s at (take i more) t (at + i) → Put s at more t (at + length more)
 put_all s t more at i e g = subst (λ (k : ℕ). Put s at more t (at + k)) e (put_is g (take_all i more (omega (arith, e))))
+
+-- eight bytes at a time
+eight-more : (more : List ℕ) (i : ℕ) → i + 8 ≤ length more
+    → take i more ++ (get_or more i 0 ∷ get_or more (i + 1) 0 ∷ get_or more (i + 2) 0 ∷ get_or more (i + 3) 0 ∷ get_or more (i + 4) 0 ∷ get_or more (i + 5) 0 ∷ get_or more (i + 6) 0 ∷ get_or more (i + 7) 0 ∷ []) ≡ take (i + 8) more
+eight-more more i h =
+    one i (i + 1) _ (omega arith) (omega arith) ∙ one (i + 1) (i + 2) _ (omega arith) (omega arith) ∙ one (i + 2) (i + 3) _ (omega arith) (omega arith) ∙ one (i + 3) (i + 4) _ (omega arith) (omega arith)
+    ∙ one (i + 4) (i + 5) _ (omega arith) (omega arith) ∙ one (i + 5) (i + 6) _ (omega arith) (omega arith) ∙ one (i + 6) (i + 7) _ (omega arith) (omega arith) ∙ one (i + 7) (i + 8) [] (omega arith) (omega arith)
+    ∙ append-nil (take (i + 8) more)
+  where
+    one : (j k : ℕ) (r : List ℕ) → suc j ≡ k → j < length more → take j more ++ (get_or more j 0 ∷ r) ≡ take k more ++ r
+    one j k r e l = sym (append_assoc (take j more) (get_or more j 0 ∷ []) r) ∙ ap (λ (z : List ℕ). z ++ r) (sym (take-suc more j 0 l) ∙ ap (λ (n : ℕ). take n more) e)
+
+pub put-eight : {s t u : List ℕ} (more : List ℕ) (at j : ℕ) → 8 * j + 8 ≤ length more → at + length more ≤ length s → Put s at (take (8 * j) more) t (at + 8 * j)
+    → Put t (at + 8 * j) (get_or more (8 * j) 0 ∷ get_or more (8 * j + 1) 0 ∷ get_or more (8 * j + 2) 0 ∷ get_or more (8 * j + 3) 0 ∷ get_or more (8 * j + 4) 0 ∷ get_or more (8 * j + 5) 0 ∷ get_or more (8 * j + 6) 0 ∷ get_or more (8 * j + 7) 0 ∷ []) u (at + 8 * j + 8)
+    → Put s at (take (8 * (j + 1)) more) u (at + 8 * (j + 1))
+put-eight {s} {u = u} more at j h room f g =
+    let i = 8 * j in
+    let l = length-take-le i more (omega arith) in
+    let p = put_is (put_then (omega arith) f g) (eight-more more i h) in
+    subst (λ (k : ℕ). Put s at (take k more) u (at + k)) (let e : i + 8 ≡ 8 * (j + 1) = omega arith in e) (record { place = omega (arith, p.place); long = p.long; bytes = p.bytes })
+
+-- and the rest of them
+pub put-rest : {s t u more : List ℕ} {i r : ℕ} (at n : ℕ) → i ≤ length more → n ≡ length more - i → at + length more ≤ length s → Put s at (take i more) t (at + i) → Put t (at + i) (take n (drop i more)) u r → Put s at more u (at + length more)
+put-rest {more = more} {i} at n h e room f g =
+    let l = length-take-le i more h in
+    let d = length-drop i more in
+    let whole = ap (λ (z : List ℕ). take i more ++ z) (take_all n (drop i more) (omega arith)) ∙ take-append-drop i more in
+    let p = put_is (put_then (omega arith) f g) whole in
+    record { place = refl; long = p.long; bytes = p.bytes }
 
 -- at most three zeros: the first, one in the middle, the last
 zeros-more : (n : ℕ) → ◌≡◌ {A = List ℕ} (replicate n 0 ++ (0 ∷ [])) (replicate (n + 1) 0)

@@ -19,7 +19,7 @@ use Rattle.order.specs.Writable.{to_write, writable}
 use Rattle.order.specs.Inner.Tests.{name_tested, code_tested, attr_tested, size_tested, tested}
 use Rattle.order.specs.Inner.Lengths.{header_length}
 use Rattle.order.proofs.Laws.Inside.{Inside, inside}
-use Rattle.order.proofs.Laws.Rows.{FullRows}
+use Rattle.order.specs.Inner.Rows.{FullRows}
 use Rattle.order.proofs.Laws.Said.{RowsAre, tested-rows, tested-is}
 use Rattle.order.proofs.Laws.Lengths.{encoded-length}
 use Rattle.writer.specs.Inner.Parts.{header_out, AttrIn, RowsIn}

@@ -1,7 +1,7 @@
 use native.Mathlib.Omega.{arith}
 use mathlib.Core.Path.{refl}
 use Rattle.writer.proofs.Laws.Put.{put-none, put-more, put_all}
-use Rattle.writer.proofs.output.copy.Goals as goal
+use Rattle.writer.proofs.output.copy_bytes.Goals as goal
 
 pub loop-i-init : goal.loop-i-init
 loop-i-init c = put-none _ c.args.more.now _
