@@ -27,7 +27,8 @@ fn counts_hold(t: &Tables) -> bool
 }
 
 // Rule 23 of the writer, for tables of the bytes `text`: the length of their header. What is written of them (`said`) hangs on the lengths of their
-// arrays, which a proof knows of a value and not behind a `&`: who has the value says them, and its 7.7 KB are not copied.
+// arrays, which a proof knows of a value and not behind a `&`: the caller, who has the value, says them (`FullRows`), and its 7.7 KB are not copied
+// once more.
 pub fn judged_in_place(text: &[u8], t: &Tables) -> Option<u64>
     requires { FullRows t.now }
     ensures { result ≡ cond (writable text.now t.now) (Some (header_length t.now)) None }

@@ -19,7 +19,7 @@ fn copy_bytes(bytes: &mut [u8], at: usize, more: &[u8])
     }
 }
 
-// The same eight bytes at a time. All eight are read before the first is written: LLVM, which is not told that the slices lie apart, makes one load
+// The same, eight bytes at a time. All eight are read before the first is written: LLVM, which is not told that the slices lie apart, makes one load
 // and one store of them only so.
 fn copy_eights(bytes: &mut [u8], at: usize, more: &[u8])
     requires { at + length more.now ≤ length bytes.old }
@@ -43,7 +43,8 @@ fn copy_eights(bytes: &mut [u8], at: usize, more: &[u8])
     copy_bytes(bytes, at + 8 * eights, &more[8 * eights..]);
 }
 
-// From so many bytes on the vectors that LLVM makes of the plain loop are worth what goes before them; names and most values have fewer.
+// From so many bytes on the vectors that LLVM makes of the plain loop are worth the tests of length and distance that go before them; most names
+// and values have fewer.
 const MANY: usize = 64;
 
 fn copy(bytes: &mut [u8], at: usize, more: &[u8])
